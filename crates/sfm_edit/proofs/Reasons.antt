@@ -13,9 +13,9 @@ use Rattle.sfm_lines.specs.declared.reason.Reason.{Reason}
 use Rattle.sfm_lines.specs.declared.reason.Reason.TheVariants.{Long, Bytes, Word, Shape, Number, Name, Twice, Law, Total, Short}
 use Rattle.sfm_lines.specs.declared.stage.Stage.TheVariants.{Terms}
 use Rattle.sfm_lines.specs.Lines.{tokens_of}
-use Rattle.sfm_lines.specs.Parts.{IsMark}
+use Rattle.sfm_lines.specs.Parts.{IsSeparator}
 use Rattle.sfm_lines.specs.Words.{word_text}
-use Rattle.sfm_lines.specs.Reading.{IsBadByte, HasAt, reason_order}
+use Rattle.sfm_lines.specs.Reading.{IsBadByte, HasTermReason, reason_order}
 use Rattle.sfm_lines.specs.ReadParts.{state_at}
 use Rattle.sfm_text.specs.Adding.{HasAsTerm, IsTermRefusal, IsTermAdded}
 use Rattle.sfm_text.specs.Language.{IsFirstOf}
@@ -131,15 +131,15 @@ drop-more tokens more first cut some text (is, other) = omega (arith, ap length 
 
 -- a mark
 pub drop-mark : (tokens more : List (List ℕ)) (first : List ℕ) → tokens ≡ first ∷ more
-    → IsMark first → (text : List ℕ) → IsDrop (codes "drop" ∷ tokens) text → ⊥
+    → IsSeparator first → (text : List ℕ) → IsDrop (codes "drop" ∷ tokens) text → ⊥
 drop-mark tokens more first cut mark text (is, other) =
     let both : first ∷ more ≡ text ∷ [] = sym cut ∙ same-rest (codes "drop") tokens (text ∷ []) is in
     let same : first ≡ text = cc in
-    other (subst IsMark same mark)
+    other (subst IsSeparator same mark)
 
 -- one token, which is no mark
 pub drop-one : (tokens more : List (List ℕ)) (first : List ℕ) → tokens ≡ first ∷ more → more ≡ []
-    → (IsMark first → ⊥) → IsDrop (codes "drop" ∷ tokens) first
+    → (IsSeparator first → ⊥) → IsDrop (codes "drop" ∷ tokens) first
 drop-one tokens more first cut none other =
     (ap (λ (l : List (List ℕ)). codes "drop" ∷ l) (cut ∙ ap (λ (l : List (List ℕ)). first ∷ l) none), other)
 
@@ -218,9 +218,9 @@ module _ (e : Editing) (line : List ℕ) (good : Any IsBadByte line → ⊥) whe
 
   -- and the other way round
   behind-add : (reason : Reason) → HasAdded e.instance (codes "add" ∷ tokens_of line) reason
-      → HasAt Terms (state_at Terms e.instance) (tokens_of line) reason
+      → HasTermReason (state_at Terms e.instance) (tokens_of line) reason
   behind-add reason (rest, is, h) =
-      subst (λ (tokens : List (List ℕ)). HasAt Terms (state_at Terms e.instance) tokens reason) (sym (same-rest (codes "add") (tokens_of line) rest is)) h
+      subst (λ (tokens : List (List ℕ)). HasTermReason (state_at Terms e.instance) tokens reason) (sym (same-rest (codes "add") (tokens_of line) rest is)) h
 
   as-term : (reason : Reason) → HasEdit e (codes "add" ∷ tokens_of line) reason
       → HasAsTerm e.instance line reason

@@ -7,9 +7,9 @@ use Rattle.sfm_lines.specs.declared.reason.Reason.{Reason}
 use Rattle.sfm_lines.specs.declared.reason.Reason.TheVariants.{Word, Shape, Number}
 use Rattle.sfm_lines.specs.declared.stage.Stage.TheVariants.{Terms}
 use Rattle.sfm_lines.specs.declared.word.TermWord.{TermWord}
-use Rattle.sfm_lines.specs.Parts.{IsMark}
+use Rattle.sfm_lines.specs.Parts.{IsSeparator}
 use Rattle.sfm_lines.specs.Words.{word_text}
-use Rattle.sfm_lines.specs.Reading.{HasAt, AddsTerm}
+use Rattle.sfm_lines.specs.Reading.{HasTermReason, AddsTerm}
 use Rattle.sfm_lines.specs.ReadParts.{state_at}
 use Rattle.sfm_side.specs.Side.{SideForm}
 
@@ -30,9 +30,9 @@ without_line e i = record {
   kept = without_terms e.instance.lines i e.kept;
 }
 
--- the tokens are `drop` and one more, which is no mark
+-- the tokens are `drop` and one more, which is no separator
 abbrev pub IsDrop : List (List ℕ) → List ℕ → Type 0
-IsDrop tokens text = (tokens ≡ codes "drop" ∷ text ∷ []) × (IsMark text → ⊥)
+IsDrop tokens text = (tokens ≡ codes "drop" ∷ text ∷ []) × (IsSeparator text → ⊥)
 
 -- the text is the number of line i of so many, counted from 1
 abbrev pub IsLineNumber : ℕ → List ℕ → ℕ → Type 0
@@ -41,7 +41,7 @@ IsLineNumber count text i = (i < count) × IsNumber text (pos (i + 1))
 -- the tokens behind `add` have that reason as a term line behind those of the instance
 abbrev pub HasAdded : InstanceData → List (List ℕ) → Reason → Type 0
 HasAdded instance tokens reason = (rest : List (List ℕ)) × (tokens ≡ codes "add" ∷ rest)
-    × HasAt Terms (state_at Terms instance) rest reason
+    × HasTermReason (state_at Terms instance) rest reason
 
 -- the reasons of a line. Word: neither `drop` nor `add` and the word of a term line. Shape and Number also: those of
 -- `drop`, whose number is that of a term line in the list as it is. The others are those of the term line behind `add`

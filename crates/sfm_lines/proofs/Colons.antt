@@ -4,7 +4,7 @@ use Prim.Native.Nat.{zero, suc}
 use Rattle.std.specs.List.{All, Any}
 use Rattle.std.proofs.lemmas.Option.{slice_get-get_or}
 use Rattle.std.proofs.lemmas.List.{length-map, take-map, drop-map, take_rest}
-use Rattle.sfm_lines.specs.Parts.{LineParts, IsMark, AreUnmarked, IsCutAtColon, IsColonLine}
+use Rattle.sfm_lines.specs.Parts.{LineParts, IsSeparator, HaveNoSeparator, IsCutAtColon, IsColonLine}
 use Rattle.sfm_lines.specs.Lines.{texts_of}
 use Rattle.sfm_lines.specs.CutParts.{IsFirstColon}
 use Rattle.sfm_lines.proofs.Cutting.{tail-none, front-same}
@@ -14,8 +14,8 @@ use Rattle.sfm_lines.proofs.Repeats.{text-at}
 pub none-any : {X : Type 0} (P : X → Type 0) (xs : List X) → All (λ x. P x → ⊥) xs → Any P xs → ⊥
 none-any P xs all (k, x, lt, e, p) = let no : P x → ⊥ = rw e at (all k x lt) in no p
 
--- a token that is no mark is no colon
-pub no-colon : (tokens : List (List ℕ)) → AreUnmarked tokens → All (λ token. token ≢ codes ":") tokens
+-- a token that is no separator is no colon
+pub no-colon : (tokens : List (List ℕ)) → HaveNoSeparator tokens → All (λ token. token ≢ codes ":") tokens
 no-colon tokens all = λ k d lt e. all k d lt (inl e)
 
 cut-suc : {X : Type 0} (b : X) (xs : List X) (place : ℕ) → slice_get xs place ≡ Some b → xs ≡ take place xs ++ b ∷ drop (suc place) xs
@@ -66,19 +66,19 @@ module _ (tokens : List (Bor (List ℕ))) (at : ℕ) (first : IsFirstColon (map 
   back-is : map (λ t. t.now) (take (length tokens - (at + 1)) (drop (at + 1) tokens)) ≡ drop (at + 1) (map (λ t. t.now) tokens)
   back-is = ap (λ (l : List (Bor (List ℕ))). map (λ t. t.now) l) (take_rest tokens (at + 1)) ∙ sym (drop-map (λ (t : Bor (List ℕ)). t.now) (at + 1) tokens)
 
-  -- tokens with a mark before or behind their first colon are not cut
-  pub marked-before : (before behind : List (List ℕ)) → Any IsMark (map (λ t. t.now) (take at tokens)) → IsCutAtColon (map (λ t. t.now) tokens) before behind → ⊥
+  -- tokens with a separator before or behind their first colon are not cut
+  pub marked-before : (before behind : List (List ℕ)) → Any IsSeparator (map (λ t. t.now) (take at tokens)) → IsCutAtColon (map (λ t. t.now) tokens) before behind → ⊥
   marked-before before behind any h =
       let same = front-is ∙ (colon-first (map (λ t. t.now) tokens) at before behind first h).0 in
-      none-any IsMark before h.unmarked_before (rw same at any)
+      none-any IsSeparator before h.unmarked_before (rw same at any)
 
-  pub marked-behind : (before behind : List (List ℕ)) → Any IsMark (map (λ t. t.now) (take (length tokens - (at + 1)) (drop (at + 1) tokens))) → IsCutAtColon (map (λ t. t.now) tokens) before behind → ⊥
+  pub marked-behind : (before behind : List (List ℕ)) → Any IsSeparator (map (λ t. t.now) (take (length tokens - (at + 1)) (drop (at + 1) tokens))) → IsCutAtColon (map (λ t. t.now) tokens) before behind → ⊥
   marked-behind before behind any h =
       let same = back-is ∙ (colon-first (map (λ t. t.now) tokens) at before behind first h).1 in
-      none-any IsMark behind h.unmarked_behind (rw same at any)
+      none-any IsSeparator behind h.unmarked_behind (rw same at any)
 
   -- others are
-  pub is-cut : AreUnmarked (map (λ t. t.now) (take at tokens)) → AreUnmarked (map (λ t. t.now) (take (length tokens - (at + 1)) (drop (at + 1) tokens))) → IsCutAtColon (map (λ t. t.now) tokens) (map (λ t. t.now) (take at tokens)) (map (λ t. t.now) (take (length tokens - (at + 1)) (drop (at + 1) tokens)))
+  pub is-cut : HaveNoSeparator (map (λ t. t.now) (take at tokens)) → HaveNoSeparator (map (λ t. t.now) (take (length tokens - (at + 1)) (drop (at + 1) tokens))) → IsCutAtColon (map (λ t. t.now) tokens) (map (λ t. t.now) (take at tokens)) (map (λ t. t.now) (take (length tokens - (at + 1)) (drop (at + 1) tokens)))
   is-cut before behind = record {
     cut = rw (front-is, back-is) (colon-cut (map (λ t. t.now) tokens) at first);
     unmarked_before = before;

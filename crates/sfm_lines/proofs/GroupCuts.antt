@@ -2,7 +2,7 @@
 use Rattle.std.proofs.Common.{◌≡◌, ℕ, suc, ◌≤◌, List, [], ◌∷◌, ◌++◌, length, Bool, true, false, cond, map, codes, refl, sym, ap, ◌∙◌, inr, arith}
 use Rattle.std.specs.List.{All, AllZip, onto_first, flat_map}
 use Rattle.std.proofs.lemmas.Slice.Eq.{bytes_eq-Decides}
-use Rattle.sfm_lines.specs.Parts.{IsMark, AreUnmarked}
+use Rattle.sfm_lines.specs.Parts.{IsSeparator, HaveNoSeparator}
 use Rattle.sfm_lines.specs.CutParts.{is_semicolon, cut_at_semicolons, IsGroupCut, AreGroupsCut}
 use Rattle.sfm_lines.proofs.Matches.{All-AllZip}
 
@@ -14,7 +14,7 @@ abbrev pub piece_tokens : List (List (List ℕ)) → List (List ℕ)
 piece_tokens pieces = flat_map (λ piece. codes ";" ∷ piece) pieces
 
 abbrev pub IsGroup : List ℕ × List (List ℕ) → Type 0
-IsGroup group = (1 ≤ length group.1) × AreUnmarked (group.0 ∷ group.1)
+IsGroup group = (1 ≤ length group.1) × HaveNoSeparator (group.0 ∷ group.1)
 
 tail-of : {X : Type 0} (P : X → Type 0) (x : X) (xs : List X) → All P (x ∷ xs) → All P xs
 tail-of P x xs all = λ k d lt. all (suc k) d (omega arith)
@@ -22,7 +22,7 @@ tail-of P x xs all = λ k d lt. all (suc k) d (omega arith)
 head-of : {X : Type 0} (P : X → Type 0) (x : X) (xs : List X) → All P (x ∷ xs) → P x
 head-of P x xs all = all 0 x (omega arith)
 
-no-semicolon : (token : List ℕ) → (IsMark token → ⊥) → is_semicolon token ≡ false
+no-semicolon : (token : List ℕ) → (IsSeparator token → ⊥) → is_semicolon token ≡ false
 no-semicolon token none = at (is_semicolon token) refl
   where
     at : (b : Bool) → is_semicolon token ≡ b → is_semicolon token ≡ false
@@ -33,18 +33,18 @@ semicolon : is_semicolon (codes ";") ≡ true
 semicolon = refl
 
 -- a piece at the end, and one before a semicolon
-split-end : (piece : List (List ℕ)) → AreUnmarked piece → cut_at_semicolons (piece ++ []) ≡ piece ∷ []
+split-end : (piece : List (List ℕ)) → HaveNoSeparator piece → cut_at_semicolons (piece ++ []) ≡ piece ∷ []
 split-end [] all = refl
 split-end (token ∷ piece) all =
-    rw (no-semicolon token (head-of (λ t. IsMark t → ⊥) token piece all), split-end piece (tail-of (λ t. IsMark t → ⊥) token piece all)) refl
+    rw (no-semicolon token (head-of (λ t. IsSeparator t → ⊥) token piece all), split-end piece (tail-of (λ t. IsSeparator t → ⊥) token piece all)) refl
 
-split-next : (piece more : List (List ℕ)) → AreUnmarked piece → cut_at_semicolons (piece ++ codes ";" ∷ more) ≡ piece ∷ cut_at_semicolons more
+split-next : (piece more : List (List ℕ)) → HaveNoSeparator piece → cut_at_semicolons (piece ++ codes ";" ∷ more) ≡ piece ∷ cut_at_semicolons more
 split-next [] more all = refl
 split-next (token ∷ piece) more all =
-    rw (no-semicolon token (head-of (λ t. IsMark t → ⊥) token piece all), split-next piece more (tail-of (λ t. IsMark t → ⊥) token piece all)) refl
+    rw (no-semicolon token (head-of (λ t. IsSeparator t → ⊥) token piece all), split-next piece more (tail-of (λ t. IsSeparator t → ⊥) token piece all)) refl
 
 -- elements and groups are cut into themselves
-split-groups : (elements : List (List ℕ)) (groups : List (List ℕ × List (List ℕ))) → AreUnmarked elements → All IsGroup groups → cut_at_semicolons (elements ++ group_tokens groups) ≡ elements ∷ map (λ group. group.0 ∷ group.1) groups
+split-groups : (elements : List (List ℕ)) (groups : List (List ℕ × List (List ℕ))) → HaveNoSeparator elements → All IsGroup groups → cut_at_semicolons (elements ++ group_tokens groups) ≡ elements ∷ map (λ group. group.0 ∷ group.1) groups
 split-groups elements [] unmarked each = split-end elements unmarked
 split-groups elements (group ∷ groups) unmarked each =
     split-next elements ((group.0 ∷ group.1) ++ group_tokens groups) unmarked
@@ -56,7 +56,7 @@ each-group (group ∷ groups) each =
     let first = head-of IsGroup group groups each in
     (record { cut = refl; some = first.0; unmarked = first.1 }, each-group groups (tail-of IsGroup group groups each))
 
-pub groups-cut : (elements : List (List ℕ)) (groups : List (List ℕ × List (List ℕ))) → 1 ≤ length elements → AreUnmarked elements → All IsGroup groups → AreGroupsCut (cut_at_semicolons (elements ++ group_tokens groups)) elements groups
+pub groups-cut : (elements : List (List ℕ)) (groups : List (List ℕ × List (List ℕ))) → 1 ≤ length elements → HaveNoSeparator elements → All IsGroup groups → AreGroupsCut (cut_at_semicolons (elements ++ group_tokens groups)) elements groups
 groups-cut elements groups some unmarked each = record {
   rest = map (λ group. group.0 ∷ group.1) groups;
   pieces_are = split-groups elements groups unmarked each;

@@ -2,7 +2,7 @@
 use Rattle.std.proofs.Common.{◌≡◌, ℕ, ◌-◌, ◌<◌, ◌≤◌, List, length, take, drop, Bor, Option, Some, None, MatchOption, refl, ◌∙◌, arith}
 use Rattle.std.specs.List.{Any}
 use Rattle.std.proofs.lemmas.List.{length-map, length-take, length-drop, take-map, drop-map, take_rest}
-use Rattle.sfm_lines.specs.Parts.{LineParts, plain_parts, IsMark, AreUnmarked, IsCutAtColon, IsColonLine}
+use Rattle.sfm_lines.specs.Parts.{LineParts, plain_parts, IsSeparator, HaveNoSeparator, IsCutAtColon, IsColonLine}
 use Rattle.sfm_lines.specs.CutParts.{AreCounts, IsSplitLine}
 use Rattle.sfm_lines.specs.Lines.{texts_of}
 use Rattle.sfm_lines.specs.Words.{HasParts}
@@ -41,7 +41,7 @@ pub colon-counted : {P : Type 0} (f : P → LineParts) (word : TermWord) (tokens
 colon-counted f word tokens numbers elements cut None none = other-counts (AreCounts word) tokens numbers elements cut none
 colon-counted f word tokens numbers elements cut (Some parts) (counts, is) = (texts_of numbers, texts_of elements, cut, rw (length-map numbers (λ (t : Bor (List ℕ)). t.now), length-map elements (λ (t : Bor (List ℕ)). t.now)) counts, is)
 
-pub split-counted : {P : Type 0} (f : P → LineParts) (word : TermWord) (count : ℕ) (tokens : List (Bor (List ℕ))) → count ≤ length tokens → AreUnmarked (texts_of tokens) → (r : Option P) → IsCounted f word (take count tokens) (take (length tokens - count) (drop count tokens)) r
+pub split-counted : {P : Type 0} (f : P → LineParts) (word : TermWord) (count : ℕ) (tokens : List (Bor (List ℕ))) → count ≤ length tokens → HaveNoSeparator (texts_of tokens) → (r : Option P) → IsCounted f word (take count tokens) (take (length tokens - count) (drop count tokens)) r
     → MatchOption r ((parts : LineParts) → IsSplitLine word count (texts_of tokens) parts → ⊥) (λ parts. IsSplitLine word count (texts_of tokens) (f parts))
 split-counted {P} f word count tokens within unmarked r h = at r (rw (first, rest) at h)
   where
@@ -62,9 +62,9 @@ split-counted {P} f word count tokens within unmarked r h = at r (rw (first, res
     at None none = λ parts (fits, counts, split). none counts
     at (Some parts) (counts, is) = (omega (arith, within, all), counts, record { unmarked = unmarked; parts_are = is ∙ split-at tokens count })
 
--- tokens that are too few, or have a mark, are no such line
+-- tokens that are too few, or have a separator, are no such line
 pub split-few : (word : TermWord) (count : ℕ) (tokens : List (Bor (List ℕ))) → length tokens < count → (parts : LineParts) → IsSplitLine word count (texts_of tokens) parts → ⊥
 split-few word count tokens few parts (fits, counts, split) = absurd (omega (arith, few, fits, length-map tokens (λ (t : Bor (List ℕ)). t.now)))
 
-pub split-marked : (word : TermWord) (count : ℕ) (tokens : List (List ℕ)) → Any IsMark tokens → (parts : LineParts) → IsSplitLine word count tokens parts → ⊥
-split-marked word count tokens any parts (fits, counts, split) = none-any IsMark tokens split.unmarked any
+pub split-marked : (word : TermWord) (count : ℕ) (tokens : List (List ℕ)) → Any IsSeparator tokens → (parts : LineParts) → IsSplitLine word count tokens parts → ⊥
+split-marked word count tokens any parts (fits, counts, split) = none-any IsSeparator tokens split.unmarked any

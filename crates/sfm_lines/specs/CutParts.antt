@@ -8,7 +8,7 @@ use Rattle.sfm_lines.specs.declared.word.RankKind.{RankKind}
 use Rattle.sfm_lines.specs.declared.word.RankKind.TheVariants.{LaminarRank}
 use Rattle.sfm_lines.specs.declared.word.TermWord.{TermWord}
 use Rattle.sfm_lines.specs.declared.word.TermWord.TheVariants.{WeightWord, CutWord, NeedWord, CoverWord, TableWord, ConcaveWord, RankWord}
-use Rattle.sfm_lines.specs.Parts.{LineParts, AreUnmarked, IsSplitAt, IsLabelToken}
+use Rattle.sfm_lines.specs.Parts.{LineParts, HaveNoSeparator, IsSplitAt, IsLabelToken}
 
 -- the first byte b of the text stands at that place
 pub record IsFirstAt (b : ℕ) (text : List ℕ) (place : ℕ) : Type 0 where
@@ -47,14 +47,14 @@ cut_at_semicolons tokens = slice_split is_semicolon tokens
 pub record IsGroupCut (tokens : List (List ℕ)) (group : List ℕ × List (List ℕ)) : Type 0 where
   pub cut : tokens ≡ group.0 ∷ group.1
   pub some : 1 ≤ length group.1
-  pub unmarked : AreUnmarked tokens
+  pub unmarked : HaveNoSeparator tokens
 
 -- at least one element, and groups
 pub record AreGroupsCut (pieces : List (List (List ℕ))) (elements : List (List ℕ)) (groups : List (List ℕ × List (List ℕ))) : Type 0 where
   pub rest : List (List (List ℕ))
   pub pieces_are : pieces ≡ elements ∷ rest
   pub some : 1 ≤ length elements
-  pub unmarked : AreUnmarked elements
+  pub unmarked : HaveNoSeparator elements
   pub each : AllZip IsGroupCut rest groups
 
 -- the number and the caps, the elements, and the names of the groups

@@ -20,12 +20,12 @@ abbrev pub plain_parts : List (List ℕ) → List (List ℕ) → LineParts
 plain_parts numbers elements = record { numbers = numbers; elements = elements; rank = NoRank; groups = []; labels = [] }
 
 -- a colon or a semicolon alone
-abbrev pub IsMark : List ℕ → Type 0
-IsMark token = (token ≡ codes ":") ⊎ (token ≡ codes ";")
+abbrev pub IsSeparator : List ℕ → Type 0
+IsSeparator token = (token ≡ codes ":") ⊎ (token ≡ codes ";")
 
--- no token is a mark
-abbrev pub AreUnmarked : List (List ℕ) → Type 0
-AreUnmarked tokens = All (λ token. IsMark token → ⊥) tokens
+-- no token is a separator
+abbrev pub HaveNoSeparator : List (List ℕ) → Type 0
+HaveNoSeparator tokens = All (λ token. IsSeparator token → ⊥) tokens
 
 -- the token has exactly one byte b, and is cut there
 pub record IsCutAt (b : ℕ) (token before behind : List ℕ) : Type 0 where
@@ -45,16 +45,16 @@ pub record IsWeightLine (tokens : List (List ℕ)) (parts : LineParts) : Type 0 
   pub each : AllZip IsPairToken tokens pairs
   pub parts_are : parts ≡ plain_parts (map (λ pair. pair.1) pairs) (map (λ pair. pair.0) pairs)
 
--- no mark; so many numbers, and then elements
+-- no separator; so many numbers, and then elements
 pub record IsSplitAt (count : ℕ) (tokens : List (List ℕ)) (parts : LineParts) : Type 0 where
-  pub unmarked : AreUnmarked tokens
+  pub unmarked : HaveNoSeparator tokens
   pub parts_are : parts ≡ plain_parts (take count tokens) (drop count tokens)
 
 -- tokens before and behind the one colon alone, and no semicolon alone
 pub record IsCutAtColon (tokens before behind : List (List ℕ)) : Type 0 where
   pub cut : tokens ≡ before ++ codes ":" ∷ behind
-  pub unmarked_before : AreUnmarked before
-  pub unmarked_behind : AreUnmarked behind
+  pub unmarked_before : HaveNoSeparator before
+  pub unmarked_behind : HaveNoSeparator behind
 
 -- numbers, a colon, and elements, in such counts
 abbrev pub IsColonLine : (ℕ → ℕ → Type 0) → List (List ℕ) → LineParts → Type 0
@@ -72,7 +72,7 @@ pub record IsUniformLine (tokens : List (List ℕ)) (parts : LineParts) : Type 0
 -- a number, the word of the rank, a colon, and what stands behind it
 pub record IsRankHead (word : List ℕ) (tokens : List (List ℕ)) (number : List ℕ) (behind : List (List ℕ)) : Type 0 where
   pub tokens_are : tokens ≡ number ∷ word ∷ codes ":" ∷ behind
-  pub no_mark : IsMark number → ⊥
+  pub no_separator : IsSeparator number → ⊥
 
 -- behind the colon at least one element, and for each group a semicolon, its cap and at least one name
 pub record IsLaminarLine (tokens : List (List ℕ)) (parts : LineParts) : Type 0 where
@@ -81,8 +81,8 @@ pub record IsLaminarLine (tokens : List (List ℕ)) (parts : LineParts) : Type 0
   pub groups : List (List ℕ × List (List ℕ))
   pub head : IsRankHead (codes "laminar") tokens number (elements ++ flat_map (λ group. codes ";" ∷ group.0 ∷ group.1) groups)
   pub some : 1 ≤ length elements
-  pub unmarked : AreUnmarked elements
-  pub each : All (λ group. (1 ≤ length group.1) × AreUnmarked (group.0 ∷ group.1)) groups
+  pub unmarked : HaveNoSeparator elements
+  pub each : All (λ group. (1 ≤ length group.1) × HaveNoSeparator (group.0 ∷ group.1)) groups
   pub parts_are : parts ≡ record { numbers = number ∷ map (λ group. group.0) groups; elements = elements; rank = LaminarRank; groups = map (λ group. group.1) groups; labels = [] }
 
 -- the text of the labels of an element: two vertices with a `-` between them, or slots between commas

@@ -20,7 +20,7 @@ use Rattle.sfm_lines.specs.declared.word.RankKind.{RankKind}
 use Rattle.sfm_lines.specs.declared.word.RankKind.TheVariants.{TransversalRank}
 use Rattle.sfm_lines.specs.declared.word.TermWord.{TermWord}
 use Rattle.sfm_lines.specs.Lines.{tokens_of}
-use Rattle.sfm_lines.specs.Parts.{LineParts, IsMark}
+use Rattle.sfm_lines.specs.Parts.{LineParts, IsSeparator}
 use Rattle.sfm_lines.specs.Versions.{header_tokens, most_size}
 use Rattle.sfm_lines.specs.Words.{word_text, BreaksLaw}
 use Rattle.sfm_lines.specs.TermLines.{IsShaped, IsNumberFor, StandsTwice, StandsFor}
@@ -85,24 +85,39 @@ HasPlain s tokens reason = ⊥
 abbrev pub Says : Version → List (List ℕ) → List (List ℕ) → Kind → Option (List ℤ) → Type 0
 Says version names tokens term weights = (plain : List (List ℕ)) × (entries : List (List ℕ × Option (List ℕ))) × IsPlainLine version tokens plain entries × StandsFor version names plain term × AreWeights entries weights
 
--- a line with these tokens has that reason where the line of a stage is due. Word: the first token is none that may begin the line.
--- Shape, Name, Twice: as of a term line without the weights of its elements, or the header is none, a mark stands in the ground line, or
--- a name of it is none or stands twice. Number, Law: as of a term line without the weights; and what stands in the place of a weight is
--- none. Total: there are too many names, or with this line too much in all
+-- the tokens have that reason as a header. Word: they do not begin with `sfm`. Shape: they are the header of no version
+abbrev pub HasHeaderReason : List (List ℕ) → Reason → Type 0
+HasHeaderReason tokens Word = (rest : List (List ℕ)) → tokens ≢ codes "sfm" ∷ rest
+HasHeaderReason tokens Shape = (version : Version) → tokens ≢ header_tokens version
+HasHeaderReason tokens reason = ⊥
+
+-- the tokens have that reason as the line of names. Word: they do not begin with `ground`. Shape: a separator is among
+-- them. Name: a token behind `ground` is no name. Twice: one stands there twice. Total: more than 256 stand there
+abbrev pub HasGroundReason : List (List ℕ) → Reason → Type 0
+HasGroundReason tokens Word = (rest : List (List ℕ)) → tokens ≢ codes "ground" ∷ rest
+HasGroundReason tokens Shape = Any IsSeparator tokens
+HasGroundReason tokens Name = (rest : List (List ℕ)) × (tokens ≡ codes "ground" ∷ rest) × Any (λ text. IsName text → ⊥) rest
+HasGroundReason tokens Twice = (rest : List (List ℕ)) × (tokens ≡ codes "ground" ∷ rest) × StandsTwice rest
+HasGroundReason tokens Total = (rest : List (List ℕ)) × (tokens ≡ codes "ground" ∷ rest) × (256 < length rest)
+HasGroundReason tokens reason = ⊥
+
+-- the tokens have that reason as a term line, or the line `end`. Word: they begin with neither `end` nor the word of a
+-- term. Shape: they are not `end` alone, and without the weights of elements they have no shape of a term line. Total:
+-- with this line there is too much in all. Number: as of the line without weights, or what stands in the place of a
+-- weight is none. The others: as of the line without weights
+abbrev pub HasTermReason : State → List (List ℕ) → Reason → Type 0
+HasTermReason s tokens Word = ((rest : List (List ℕ)) → tokens ≢ codes "end" ∷ rest) × ((word : TermWord) (rest : List (List ℕ)) → tokens ≢ word_text word ∷ rest)
+HasTermReason s tokens Shape = (tokens ≢ codes "end" ∷ []) × ((plain : List (List ℕ)) (entries : List (List ℕ × Option (List ℕ))) → IsPlainLine s.version tokens plain entries → HasPlain s plain Shape)
+HasTermReason s tokens Total = (term : Kind) × (weights : Option (List ℤ)) × Says s.version s.names tokens term weights × ((places : ℕ) × (total : ℤ) × Brings term weights places total × AreTooMuch s.version s.lines s.terms places total)
+HasTermReason s tokens reason = (plain : List (List ℕ)) × (entries : List (List ℕ × Option (List ℕ))) × IsPlainLine s.version tokens plain entries × (HasPlain s plain reason ⊎ ((reason ≡ Number) × Any (λ entry. (value : ℤ) → IsWeightText entry.1 value → ⊥) entries))
+
+-- a line with these tokens has that reason where the line of that stage is due; behind `end` no line is
 abbrev pub HasAt : Stage → State → List (List ℕ) → Reason → Type 0
-HasAt Header s tokens Word = (rest : List (List ℕ)) → tokens ≢ codes "sfm" ∷ rest
-HasAt Header s tokens Shape = (version : Version) → tokens ≢ header_tokens version
-HasAt Ground s tokens Word = (rest : List (List ℕ)) → tokens ≢ codes "ground" ∷ rest
-HasAt Ground s tokens Shape = Any IsMark tokens
-HasAt Ground s tokens Name = (rest : List (List ℕ)) × (tokens ≡ codes "ground" ∷ rest) × Any (λ text. IsName text → ⊥) rest
-HasAt Ground s tokens Twice = (rest : List (List ℕ)) × (tokens ≡ codes "ground" ∷ rest) × StandsTwice rest
-HasAt Ground s tokens Total = (rest : List (List ℕ)) × (tokens ≡ codes "ground" ∷ rest) × (256 < length rest)
-HasAt Terms s tokens Word = ((rest : List (List ℕ)) → tokens ≢ codes "end" ∷ rest) × ((word : TermWord) (rest : List (List ℕ)) → tokens ≢ word_text word ∷ rest)
-HasAt Terms s tokens Shape = (tokens ≢ codes "end" ∷ []) × ((plain : List (List ℕ)) (entries : List (List ℕ × Option (List ℕ))) → IsPlainLine s.version tokens plain entries → HasPlain s plain Shape)
-HasAt Terms s tokens Total = (term : Kind) × (weights : Option (List ℤ)) × Says s.version s.names tokens term weights × ((places : ℕ) × (total : ℤ) × Brings term weights places total × AreTooMuch s.version s.lines s.terms places total)
-HasAt Terms s tokens reason = (plain : List (List ℕ)) × (entries : List (List ℕ × Option (List ℕ))) × IsPlainLine s.version tokens plain entries × (HasPlain s plain reason ⊎ ((reason ≡ Number) × Any (λ entry. (value : ℤ) → IsWeightText entry.1 value → ⊥) entries))
+HasAt Header s tokens reason = HasHeaderReason tokens reason
+HasAt Ground s tokens reason = HasGroundReason tokens reason
+HasAt Terms s tokens reason = HasTermReason s tokens reason
 HasAt Ended s tokens Word = Unit {0}
-HasAt _ s tokens reason = ⊥
+HasAt Ended s tokens reason = ⊥
 
 -- the line has that reason in that state; that a text is too long or too short is said of no line
 abbrev pub HasReason : State → List ℕ → Reason → Type 0

@@ -5,7 +5,7 @@ use Rattle.sfm_base.specs.NumberText.{IsNumber}
 use Rattle.sfm_kind.specs.declared.version.Version.{Version}
 use Rattle.sfm_kind.specs.declared.version.Version.TheVariants.{Second}
 use Rattle.sfm_lines.specs.declared.word.TermWord.TheVariants.{RankWord}
-use Rattle.sfm_lines.specs.Parts.{IsMark, IsCutAt}
+use Rattle.sfm_lines.specs.Parts.{IsSeparator, IsCutAt}
 use Rattle.sfm_lines.specs.Words.{word_text}
 
 -- the token is an element alone, or what stands for one, its one star and the text of its weight: where nothing is before the star, the
@@ -22,7 +22,7 @@ pub record IsUnweighed (tokens plain : List (List ℕ)) (entries : List (List �
   pub behind : List (List ℕ)
   pub cut : tokens ≡ head ++ codes ":" ∷ (marked ++ behind)
   pub no_colon : All (λ token. token ≢ codes ":") head
-  pub each : AllZip (λ token entry. IsWeighed token entry × (IsMark entry.0 → ⊥)) marked entries
+  pub each : AllZip (λ token entry. IsWeighed token entry × (IsSeparator entry.0 → ⊥)) marked entries
   pub ends : (behind ≡ []) ⊎ ((rest : List (List ℕ)) × (behind ≡ codes ";" ∷ rest))
   pub plain_are : plain ≡ head ++ codes ":" ∷ (map (λ entry. entry.0) entries ++ behind)
 

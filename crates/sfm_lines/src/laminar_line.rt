@@ -3,9 +3,9 @@
 ghost use Rattle.std.specs.{Prelude.{◌≡◌, ℕ, List, MatchBool, MatchOption, IfOk}, List.{AllZip}};
 ghost use Rattle.sfm_lines.specs.{Lines.{texts_of, text_lists_of}, Parts.{IsLaminarLine}, CutParts.{is_semicolon, cut_at_semicolons, IsGroupCut, AreGroupsCut, laminar_parts_of, with_groups}, ReadParts.{HasLineParts, parts_of}};
 
-use crate::mark::has_mark;
 use crate::parts::Parts;
 use crate::rank_head::cut_head;
+use crate::separator::has_separator;
 use crate::word::RankKind;
 use std::alloc::{AllocError, Global};
 
@@ -34,7 +34,7 @@ fn cut_group<'a, 'b>(tokens: &'b [&'a [u8]]) -> Option<(&'a [u8], &'b [&'a [u8]]
     let Some((cap, names)) = tokens.split_first() else {
         return None;
     };
-    if names.is_empty() || has_mark(tokens) {
+    if names.is_empty() || has_separator(tokens) {
         return None;
     }
     Some((*cap, names))
@@ -80,7 +80,7 @@ fn group_parts<'a, 'b>(
     let Some((elements, rest)) = pieces.split_first() else {
         return Ok(None);
     };
-    if elements.is_empty() || has_mark(elements) {
+    if elements.is_empty() || has_separator(elements) {
         return Ok(None);
     }
     let mut parts = Parts::copied(alloc, RankKind::LaminarRank, &[number], elements)?;

@@ -6,9 +6,9 @@ ghost use Rattle.sfm_lines.specs.{Lines.{texts_of}, Parts.{plain_parts, IsColonL
 
 use crate::graphic_line::graphic_parts;
 use crate::laminar_line::laminar_parts;
-use crate::mark::{cut_at_colon, has_mark};
 use crate::pair::cut_pair;
 use crate::parts::Parts;
+use crate::separator::{cut_at_colon, has_separator};
 use crate::uniform_line::uniform_parts;
 use crate::word::{RankKind, TermWord};
 use std::alloc::{AllocError, Global};
@@ -84,7 +84,7 @@ fn split_parts<'a, 'b>(
 ) -> Result<Option<Parts<'a, 'b>>, AllocError>
     ensures { IfOk result (HasLineParts (IsSplitLine word count) (texts_of tokens.now)) }
 {
-    if tokens.len() < count || has_mark(tokens) {
+    if tokens.len() < count || has_separator(tokens) {
         return Ok(None);
     }
     counted_parts(alloc, word, &tokens[..count], &tokens[count..])

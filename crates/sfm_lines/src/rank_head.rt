@@ -2,7 +2,7 @@
 ghost use Rattle.std.specs.Prelude.{ℕ, List, MatchOption};
 ghost use Rattle.sfm_lines.specs.{Lines.{texts_of}, Parts.{IsRankHead}};
 
-use crate::mark::is_mark;
+use crate::separator::is_separator;
 use crate::word::is_word;
 
 /// The number and the tokens behind the colon of a line with this word, or None where it does not begin so.
@@ -15,7 +15,7 @@ pub fn cut_head<'a, 'b>(word: &[u8], tokens: &'b [&'a [u8]]) -> Option<(&'a [u8]
     let [number, kind, colon, rest @ ..] = tokens else {
         return None;
     };
-    if is_mark(number) {
+    if is_separator(number) {
         return None;
     }
     if !is_word(kind, word) {

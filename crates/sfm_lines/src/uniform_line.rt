@@ -2,8 +2,8 @@
 ghost use Rattle.std.specs.Prelude.{◌≡◌, length, IfOk};
 ghost use Rattle.sfm_lines.specs.{Lines.{texts_of}, Parts.{LineParts, IsUniformLine}, ReadParts.{AreGiven, HasLineParts, IsTermOf}, declared.word.TermWord.TheVariants.{RankWord}, declared.word.RankKind.TheVariants.{UniformRank}};
 
-use crate::mark::cut_at_colon;
 use crate::parts::Parts;
+use crate::separator::cut_at_colon;
 use crate::word::{RankKind, is_word};
 use sfm_base::Memory;
 use sfm_concave::Uniform;

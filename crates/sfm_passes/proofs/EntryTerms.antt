@@ -66,7 +66,7 @@ pub entry-again : (i : InstanceData) (number colon : List ℕ) (tokens : List (L
     → IsReasonOf i RankWord (number ∷ codes "transversal" ∷ colon ∷ tokens) Twice
 entry-again i number colon tokens some named good again =
     let (entries, each) = all-matched (IsLabelToken TransversalRank) tokens good.each in
-    labelled-slot i TransversalRank tt number colon tokens (colon ∷ tokens) refl some good.no_mark good.is_colon entries each good.is_number named good.known good.named
+    labelled-slot i TransversalRank tt number colon tokens (colon ∷ tokens) refl some good.no_separator good.is_colon entries each good.is_number named good.known good.named
     (matched-one (IsLabelToken TransversalRank) RepeatsSlot (λ (entry : List ℕ × List (List ℕ)). entry.1) (λ slots. StandsTwice slots)
     (λ token entry p (other, q, twice). let same : other ≡ entry = token-same TransversalRank token other entry q p in rw same at twice) tokens entries each again)
 
@@ -92,10 +92,10 @@ module _ (i : InstanceData) (number colon : List ℕ) (tokens : List (List ℕ))
   parts = labelled_parts_of TransversalRank number entries
 
   shape : IsRankLine (number ∷ codes "transversal" ∷ colon ∷ tokens) parts
-  shape = labelled-line i TransversalRank tt number colon tokens (colon ∷ tokens) refl some good.good.no_mark good.good.is_colon entries each
+  shape = labelled-line i TransversalRank tt number colon tokens (colon ∷ tokens) refl some good.good.no_separator good.good.is_colon entries each
 
   labels : All (λ texts. All IsName texts) (map (λ entry. entry.1) entries)
-  labels = labels-named i TransversalRank tt number colon tokens (colon ∷ tokens) refl some good.good.no_mark good.good.is_colon entries each good.good.is_number named good.good.known good.good.named
+  labels = labels-named i TransversalRank tt number colon tokens (colon ∷ tokens) refl some good.good.no_separator good.good.is_colon entries each good.good.is_number named good.good.known good.good.named
 
   slots-each : All (λ slots. StandsTwice slots → ⊥) (map (λ entry. entry.1) entries)
   slots-each = matched-all (IsLabelToken TransversalRank) (λ token. RepeatsSlot token → ⊥) (λ (entry : List ℕ × List (List ℕ)). entry.1) (λ slots. StandsTwice slots → ⊥) (λ token entry p once twice. once (entry, p, twice)) tokens entries each good.once

@@ -201,8 +201,8 @@ module _ (i : InstanceData) (number : List ℕ) (elements behind : List (List �
   members-once = matched-all IsGroupCut IsOnce (λ (group : List ℕ × List (List ℕ)). group.1) (λ names. StandsTwice names → ⊥) (λ piece group p h. h group.0 group.1 p.cut) pieces cuts.0 cuts.1 good.each_once
 
   pub term-law : ((a : ℕ) × (b : ℕ) × IsCrossing all a b) → IsReasonOf i RankWord (laminar_tokens number behind) Law
-  term-law cross = λ line of. at-law i RankWord (laminar_tokens number behind) line of parts (laminar-line i number elements behind pieces is good.no_mark (omega (arith, good.some)) good.unmarked cuts.0 cuts.1) values numbers places named known
-      (members-named i number elements behind pieces is good.no_mark (omega (arith, good.some)) good.unmarked cuts.0 cuts.1 good.is_number good.caps named good.known good.members) (All-nil _)
+  term-law cross = λ line of. at-law i RankWord (laminar_tokens number behind) line of parts (laminar-line i number elements behind pieces is good.no_separator (omega (arith, good.some)) good.unmarked cuts.0 cuts.1) values numbers places named known
+      (members-named i number elements behind pieces is good.no_separator (omega (arith, good.some)) good.unmarked cuts.0 cuts.1 good.is_number good.caps named good.known good.members) (All-nil _)
       (λ t. good.once (twice-places i.names elements places known t)) members-once (λ h. h)
       (rw (groups-told i.version number elements pieces cuts.0 all w cuts.1 told) cross)
 
@@ -214,14 +214,14 @@ module _ (i : InstanceData) (number : List ℕ) (elements behind : List (List �
       parts = parts;
       values = values;
       places = places;
-      shaped = (refl, laminar-line i number elements behind pieces is good.no_mark (omega (arith, good.some)) good.unmarked cuts.0 cuts.1);
+      shaped = (refl, laminar-line i number elements behind pieces is good.no_separator (omega (arith, good.some)) good.unmarked cuts.0 cuts.1);
       numbers = numbers;
       elements = known;
       same_places = same_places;
       made = (same_w, λ t. rw (same_groups ∙ ap least_groups (sym (groups-told i.version number elements pieces cuts.0 all w cuts.1 told))) (least-caps (groups_of values parts) t));
     };
-    good = λ line reason of. none-total i RankWord (laminar_tokens number behind) line of parts (laminar-line i number elements behind pieces is good.no_mark (omega (arith, good.some)) good.unmarked cuts.0 cuts.1) values numbers places named known
-        (members-named i number elements behind pieces is good.no_mark (omega (arith, good.some)) good.unmarked cuts.0 cuts.1 good.is_number good.caps named good.known good.members) (All-nil _)
+    good = λ line reason of. none-total i RankWord (laminar_tokens number behind) line of parts (laminar-line i number elements behind pieces is good.no_separator (omega (arith, good.some)) good.unmarked cuts.0 cuts.1) values numbers places named known
+        (members-named i number elements behind pieces is good.no_separator (omega (arith, good.some)) good.unmarked cuts.0 cuts.1 good.is_number good.caps named good.known good.members) (All-nil _)
         (λ t. good.once (twice-places i.names elements places known t)) members-once (λ h. h) no-crossing reason;
   }
     where

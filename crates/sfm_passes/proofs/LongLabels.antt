@@ -12,7 +12,7 @@ use Rattle.sfm_passes.specs.declared.token_test.TokenTest.TheVariants.{Labelled,
 use Rattle.sfm_lines.specs.declared.word.RankKind.{RankKind}
 use Rattle.sfm_lines.specs.declared.word.RankKind.TheVariants.{GraphicRank, TransversalRank}
 use Rattle.sfm_lines.specs.declared.word.TermWord.TheVariants.{RankWord}
-use Rattle.sfm_lines.specs.Parts.{LineParts, IsMark, IsCutAt, IsLabelToken, IsLabelledLine, IsRankLine, AreLabelsOf}
+use Rattle.sfm_lines.specs.Parts.{LineParts, IsSeparator, IsCutAt, IsLabelToken, IsLabelledLine, IsRankLine, AreLabelsOf}
 use Rattle.sfm_lines.specs.CutParts.{labelled_parts_of}
 use Rattle.sfm_lines.specs.TermLines.{IsElement}
 use Rattle.sfm_lines.specs.Reading.{HasSlotTwice}
@@ -120,8 +120,8 @@ module _ (i : InstanceData) (rank : RankKind) (has : HasLabels rank) (number col
       let e : number ∷ label_word rank ∷ colon ∷ tokens ≡ l.number ∷ label_word rank ∷ codes ":" ∷ l.behind = sym (ap (λ (m : List (List ℕ)). number ∷ label_word rank ∷ m) is) ∙ l.head.tokens_are in
       (l, (cc, cc, cc))
 
-  pub labelled-mark : IsMark number → IsReasonOf i RankWord (number ∷ label_word rank ∷ more) Shape
-  labelled-mark m = long-shape i RankWord (number ∷ label_word rank ∷ more) (λ parts h. let (l, same) = labelled-same parts h in l.head.no_mark (rw (same.0) at m))
+  pub labelled-mark : IsSeparator number → IsReasonOf i RankWord (number ∷ label_word rank ∷ more) Shape
+  labelled-mark m = long-shape i RankWord (number ∷ label_word rank ∷ more) (λ parts h. let (l, same) = labelled-same parts h in l.head.no_separator (rw (same.0) at m))
 
   pub labelled-colon : (colon ≢ codes ":") → IsReasonOf i RankWord (number ∷ label_word rank ∷ more) Shape
   labelled-colon other = long-shape i RankWord (number ∷ label_word rank ∷ more) (λ parts h. let (l, same) = labelled-same parts h in other same.1)
@@ -129,7 +129,7 @@ module _ (i : InstanceData) (rank : RankKind) (has : HasLabels rank) (number col
   pub labelled-entry : Any (λ token. Holds i (Labelled rank) token → ⊥) tokens → IsReasonOf i RankWord (number ∷ label_word rank ∷ more) Shape
   labelled-entry any = long-shape i RankWord (number ∷ label_word rank ∷ more) (λ parts h. let (l, same) = labelled-same parts h in entry-none rank tokens l.behind l.entries same.2 l.each any)
 
-  module _ (some : 0 < length tokens) (no_mark : IsMark number → ⊥) (is_colon : colon ≡ codes ":") (entries : List (List ℕ × List (List ℕ))) (each : AllZip (IsLabelToken rank) tokens entries) where
+  module _ (some : 0 < length tokens) (no_separator : IsSeparator number → ⊥) (is_colon : colon ≡ codes ":") (entries : List (List ℕ × List (List ℕ))) (each : AllZip (IsLabelToken rank) tokens entries) where
     abbrev pub labelled-parts : LineParts
     labelled-parts = labelled_parts_of rank number entries
 
@@ -138,7 +138,7 @@ module _ (i : InstanceData) (rank : RankKind) (has : HasLabels rank) (number col
       number = number;
       behind = tokens;
       entries = entries;
-      head = record { tokens_are = ap (λ (l : List (List ℕ)). number ∷ label_word rank ∷ l) (is ∙ ap (λ (t : List ℕ). t ∷ tokens) is_colon); no_mark = no_mark };
+      head = record { tokens_are = ap (λ (l : List (List ℕ)). number ∷ label_word rank ∷ l) (is ∙ ap (λ (t : List ℕ). t ∷ tokens) is_colon); no_separator = no_separator };
       some = omega (arith, some);
       each = each;
       parts_are = refl;
@@ -180,4 +180,4 @@ module _ (i : InstanceData) (rank : RankKind) (has : HasLabels rank) (number col
   pub many-entries : 256 < length tokens → IsReasonOf i RankWord (number ∷ label_word rank ∷ more) Twice
   many-entries many =
       let (entries, each) = all-matched (IsLabelToken rank) tokens good.each in
-      labelled-twice i rank has number colon tokens more is some good.no_mark good.is_colon entries each good.is_number named good.known good.named many
+      labelled-twice i rank has number colon tokens more is some good.no_separator good.is_colon entries each good.is_number named good.known good.named many

@@ -8,7 +8,7 @@ use Rattle.sfm_lines.specs.declared.reason.Reason.TheVariants.{Shape, Number, Na
 use Rattle.sfm_passes.specs.declared.token_test.TokenTest.TheVariants.{Element}
 use Rattle.sfm_passes.specs.declared.group_test.GroupTest.TheVariants.{Whole, Cap, Once}
 use Rattle.sfm_lines.specs.declared.word.TermWord.TheVariants.{RankWord}
-use Rattle.sfm_lines.specs.Parts.{LineParts, IsMark, AreUnmarked, IsLaminarLine, IsRankLine}
+use Rattle.sfm_lines.specs.Parts.{LineParts, IsSeparator, HaveNoSeparator, IsLaminarLine, IsRankLine}
 use Rattle.sfm_lines.specs.CutParts.{IsGroupCut, AreGroupsCut, cut_at_semicolons, laminar_parts_of}
 use Rattle.sfm_lines.specs.TermLines.{IsNumberFor, IsElement, StandsTwice}
 use Rattle.sfm_lines.specs.Reading.{HasStranger}
@@ -71,19 +71,19 @@ module _ (i : InstanceData) (number : List ℕ) (elements behind : List (List �
       let each : AllZip IsGroupCut pieces h.groups = rw rest cut.each in
       (h, first, same, each)
 
-  pub laminar-mark : IsMark number → IsReasonOf i RankWord (laminar_tokens number behind) Shape
-  laminar-mark m = long-shape i RankWord (laminar_tokens number behind) (λ parts line. let (h, first, same, each) = laminar-same parts line in h.head.no_mark (rw first at m))
+  pub laminar-mark : IsSeparator number → IsReasonOf i RankWord (laminar_tokens number behind) Shape
+  laminar-mark m = long-shape i RankWord (laminar_tokens number behind) (λ parts line. let (h, first, same, each) = laminar-same parts line in h.head.no_separator (rw first at m))
 
   pub laminar-empty : length elements ≤ 0 → IsReasonOf i RankWord (laminar_tokens number behind) Shape
   laminar-empty few = long-shape i RankWord (laminar_tokens number behind) (λ parts line. let (h, first, same, each) = laminar-same parts line in omega (arith, few, h.some, ap length same))
 
-  pub laminar-marked : Any IsMark elements → IsReasonOf i RankWord (laminar_tokens number behind) Shape
-  laminar-marked any = long-shape i RankWord (laminar_tokens number behind) (λ parts line. let (h, first, same, each) = laminar-same parts line in none-any IsMark h.elements h.unmarked (rw same at any))
+  pub laminar-marked : Any IsSeparator elements → IsReasonOf i RankWord (laminar_tokens number behind) Shape
+  laminar-marked any = long-shape i RankWord (laminar_tokens number behind) (λ parts line. let (h, first, same, each) = laminar-same parts line in none-any IsSeparator h.elements h.unmarked (rw same at any))
 
   pub laminar-piece : Any (GroupFails i.version Whole) pieces → IsReasonOf i RankWord (laminar_tokens number behind) Shape
   laminar-piece any = long-shape i RankWord (laminar_tokens number behind) (λ parts line. let (h, first, same, each) = laminar-same parts line in piece-none pieces h.groups each any)
 
-  module _ (no_mark : IsMark number → ⊥) (some : 0 < length elements) (unmarked : AreUnmarked elements) (groups : List (List ℕ × List (List ℕ))) (each : AllZip IsGroupCut pieces groups) where
+  module _ (no_separator : IsSeparator number → ⊥) (some : 0 < length elements) (unmarked : HaveNoSeparator elements) (groups : List (List ℕ × List (List ℕ))) (each : AllZip IsGroupCut pieces groups) where
     abbrev pub laminar-parts : LineParts
     laminar-parts = laminar_parts_of number elements groups
 
@@ -95,7 +95,7 @@ module _ (i : InstanceData) (number : List ℕ) (elements behind : List (List �
       number = number;
       elements = elements;
       groups = groups;
-      head = record { tokens_are = ap (laminar_tokens number) (groups-behind behind elements groups groups-are); no_mark = no_mark };
+      head = record { tokens_are = ap (laminar_tokens number) (groups-behind behind elements groups groups-are); no_separator = no_separator };
       some = omega (arith, some);
       unmarked = unmarked;
       each = groups-each (cut_at_semicolons behind) elements groups groups-are;
@@ -153,7 +153,7 @@ module _ (i : InstanceData) (number : List ℕ) (elements behind : List (List �
         laminar-again any = long-member i RankWord (laminar_tokens number behind) laminar-parts laminar-line laminar-values named (all-matched (IsElement i.names) elements known) members-named (All-nil _) (again any)
 
 -- what the pieces are tried for last tells whether the line has its shape
-pub shaped-by : (i : InstanceData) (number : List ℕ) (elements : List (List ℕ)) (pieces : List (List (List ℕ))) → (IsMark number → ⊥) → 0 < length elements → AreUnmarked elements → (r : Bool) → MatchBool r (All IsWhole pieces) (Any (λ piece. IsWhole piece → ⊥) pieces)
+pub shaped-by : (i : InstanceData) (number : List ℕ) (elements : List (List ℕ)) (pieces : List (List (List ℕ))) → (IsSeparator number → ⊥) → 0 < length elements → HaveNoSeparator elements → (r : Bool) → MatchBool r (All IsWhole pieces) (Any (λ piece. IsWhole piece → ⊥) pieces)
     → MatchBool r (AreShapedGroups number elements pieces) ((behind : List (List ℕ)) → cut_at_semicolons behind ≡ elements ∷ pieces → IsReasonOf i RankWord (laminar_tokens number behind) Shape)
-shaped-by i number elements pieces no_mark some unmarked true whole = record { no_mark = no_mark; some = some; unmarked = unmarked; whole = whole }
-shaped-by i number elements pieces no_mark some unmarked false any = λ behind is. laminar-piece i number elements behind pieces is any
+shaped-by i number elements pieces no_separator some unmarked true whole = record { no_separator = no_separator; some = some; unmarked = unmarked; whole = whole }
+shaped-by i number elements pieces no_separator some unmarked false any = λ behind is. laminar-piece i number elements behind pieces is any

@@ -6,7 +6,7 @@ use Rattle.sfm_kind.specs.Instance.{InstanceData}
 use Rattle.sfm_lines.specs.declared.reason.Reason.TheVariants.{Shape, Number}
 use Rattle.sfm_lines.specs.declared.word.RankKind.TheVariants.{NoRank, UniformRank}
 use Rattle.sfm_lines.specs.declared.word.TermWord.TheVariants.{RankWord}
-use Rattle.sfm_lines.specs.Parts.{LineParts, IsMark, AreUnmarked, IsCutAtColon, IsUniformLine, IsRankLine}
+use Rattle.sfm_lines.specs.Parts.{LineParts, IsSeparator, HaveNoSeparator, IsCutAtColon, IsUniformLine, IsRankLine}
 use Rattle.sfm_passes.specs.Passes.{IsReasonOf, HasTooMany, IsRankNamed}
 use Rattle.sfm_lines.specs.ReadParts.{IsNumberOf}
 use Rattle.sfm_lines.proofs.GroupCuts.{group_tokens}
@@ -43,27 +43,27 @@ module _ (number cap colon : List ℕ) (elements : List (List ℕ)) where
     same : number ∷ codes "uniform" ∷ cap ∷ colon ∷ elements ≡ h.number ∷ codes "uniform" ∷ h.cap ∷ codes ":" ∷ h.elements
     same = h.cut.cut
 
-    pub uniform-number : IsMark number → ⊥
+    pub uniform-number : IsSeparator number → ⊥
     uniform-number m = let e : number ≡ h.number = cc same in h.cut.unmarked_before 0 [] (omega arith) (rw e at m)
 
-    pub uniform-cap : IsMark cap → ⊥
+    pub uniform-cap : IsSeparator cap → ⊥
     uniform-cap m = let e : cap ≡ h.cap = cc same in h.cut.unmarked_before 2 [] (omega arith) (rw e at m)
 
     pub uniform-colon : colon ≡ codes ":"
     uniform-colon = cc same
 
-    pub uniform-elements : Any IsMark elements → ⊥
-    uniform-elements any = let e : elements ≡ h.elements = cc same in none-any IsMark h.elements h.cut.unmarked_behind (rw e at any)
+    pub uniform-elements : Any IsSeparator elements → ⊥
+    uniform-elements any = let e : elements ≡ h.elements = cc same in none-any IsSeparator h.elements h.cut.unmarked_behind (rw e at any)
 
-  module _ (is_colon : colon ≡ codes ":") (number_good : IsMark number → ⊥) (cap_good : IsMark cap → ⊥) (behind : AreUnmarked elements) where
+  module _ (is_colon : colon ≡ codes ":") (number_good : IsSeparator number → ⊥) (cap_good : IsSeparator cap → ⊥) (behind : HaveNoSeparator elements) where
     pub uniform-cut : IsCutAtColon (number ∷ codes "uniform" ∷ cap ∷ colon ∷ elements) (number ∷ codes "uniform" ∷ cap ∷ []) elements
     uniform-cut = record {
       cut = ap (λ (t : List ℕ). number ∷ codes "uniform" ∷ cap ∷ t ∷ elements) is_colon;
-      unmarked_before = All-cons (λ token. IsMark token → ⊥) number (codes "uniform" ∷ cap ∷ []) number_good (All-cons (λ token. IsMark token → ⊥) (codes "uniform") (cap ∷ []) no-mark (All-cons (λ token. IsMark token → ⊥) cap [] cap_good (All-nil (λ token. IsMark token → ⊥))));
+      unmarked_before = All-cons (λ token. IsSeparator token → ⊥) number (codes "uniform" ∷ cap ∷ []) number_good (All-cons (λ token. IsSeparator token → ⊥) (codes "uniform") (cap ∷ []) no-mark (All-cons (λ token. IsSeparator token → ⊥) cap [] cap_good (All-nil (λ token. IsSeparator token → ⊥))));
       unmarked_behind = behind;
     }
       where
-        no-mark : IsMark (codes "uniform") → ⊥
+        no-mark : IsSeparator (codes "uniform") → ⊥
         no-mark (inl e) = absurd (omega (arith, ap length e))
         no-mark (inr e) = absurd (omega (arith, ap length e))
 

@@ -12,7 +12,7 @@ use Rattle.sfm_lines.specs.declared.reason.Reason.TheVariants.{Shape, Number, Na
 use Rattle.sfm_passes.specs.declared.token_test.TokenTest.TheVariants.{Pair, PairNumber, PairElement, Value, Element}
 use Rattle.sfm_lines.specs.declared.word.TermWord.{TermWord}
 use Rattle.sfm_lines.specs.declared.word.TermWord.TheVariants.{WeightWord, CoverWord, ConcaveWord, CutWord, NeedWord, TableWord}
-use Rattle.sfm_lines.specs.Parts.{LineParts, plain_parts, IsMark, AreUnmarked, IsPairToken, IsWeightLine, IsCutAtColon, IsColonLine}
+use Rattle.sfm_lines.specs.Parts.{LineParts, plain_parts, IsSeparator, HaveNoSeparator, IsPairToken, IsWeightLine, IsCutAtColon, IsColonLine}
 use Rattle.sfm_lines.specs.CutParts.{AreCounts}
 use Rattle.sfm_lines.specs.Words.{HasParts}
 use Rattle.sfm_lines.specs.TermLines.{IsNumberFor, IsElement, StandsTwice}
@@ -119,10 +119,10 @@ module _ (i : InstanceData) (tokens : List (List ℕ)) (long : 1024 < length tok
 
 -- ---- a cover
 
-pub no-cover : (tokens : List (List ℕ)) → Any IsMark tokens → (parts : LineParts) → HasParts CoverWord tokens parts → ⊥
-no-cover tokens any parts h = none-any IsMark tokens h.1.unmarked any
+pub no-cover : (tokens : List (List ℕ)) → Any IsSeparator tokens → (parts : LineParts) → HasParts CoverWord tokens parts → ⊥
+no-cover tokens any parts h = none-any IsSeparator tokens h.1.unmarked any
 
-module _ (i : InstanceData) (tokens : List (List ℕ)) (long : 1024 < length tokens) (unmarked : AreUnmarked tokens) (number : List ℕ) (elements : List (List ℕ)) (cut : tokens ≡ number ∷ elements) where
+module _ (i : InstanceData) (tokens : List (List ℕ)) (long : 1024 < length tokens) (unmarked : HaveNoSeparator tokens) (number : List ℕ) (elements : List (List ℕ)) (cut : tokens ≡ number ∷ elements) where
   cover-line : HasParts CoverWord tokens (plain_parts (number ∷ []) elements)
   cover-line = (omega (arith, long), record { unmarked = unmarked; parts_are = rw cut refl })
 

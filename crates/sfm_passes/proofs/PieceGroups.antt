@@ -4,7 +4,7 @@ use Rattle.std.specs.List.{All, Any}
 use Rattle.sfm_kind.specs.declared.version.Version.{Version}
 use Rattle.sfm_lines.specs.declared.word.TermWord.TheVariants.{RankWord}
 use Rattle.sfm_passes.specs.declared.group_test.GroupTest.TheVariants.{Cap}
-use Rattle.sfm_lines.specs.Parts.{IsMark, AreUnmarked}
+use Rattle.sfm_lines.specs.Parts.{IsSeparator, HaveNoSeparator}
 use Rattle.sfm_lines.specs.ReadParts.{IsNumberOf}
 use Rattle.sfm_passes.specs.GroupPasses.{IsWhole, HasCap, GroupFails, OfGroup, HasMembers, LacksMember}
 use Rattle.sfm_lines.proofs.Colons.{none-any}
@@ -28,10 +28,10 @@ whole-none piece none = λ (group, h). omega (arith, ap length (sym none ∙ h.c
 pub whole-few : (piece : List (List ℕ)) (cap : List ℕ) (names : List (List ℕ)) → piece ≡ cap ∷ names → length names ≤ 0 → IsWhole piece → ⊥
 whole-few piece cap names is few = λ (group, h). omega (arith, few, h.some, ap length (sym is ∙ h.cut))
 
-pub whole-marked : (piece : List (List ℕ)) → Any IsMark piece → IsWhole piece → ⊥
-whole-marked piece any = λ (group, h). none-any IsMark piece h.unmarked any
+pub whole-marked : (piece : List (List ℕ)) → Any IsSeparator piece → IsWhole piece → ⊥
+whole-marked piece any = λ (group, h). none-any IsSeparator piece h.unmarked any
 
-pub whole-made : (piece : List (List ℕ)) (cap : List ℕ) (names : List (List ℕ)) → piece ≡ cap ∷ names → 0 < length names → AreUnmarked piece → IsWhole piece
+pub whole-made : (piece : List (List ℕ)) (cap : List ℕ) (names : List (List ℕ)) → piece ≡ cap ∷ names → 0 < length names → HaveNoSeparator piece → IsWhole piece
 whole-made piece cap names is some unmarked = ((cap, names), record { cut = is; some = omega (arith, some); unmarked = unmarked })
 
 -- ---- a cap

@@ -14,7 +14,7 @@ use Rattle.sfm_passes.specs.declared.group_test.GroupTest.TheVariants.{Whole, Ca
 use Rattle.sfm_passes.specs.declared.token_test.TokenTest.TheVariants.{Element}
 use Rattle.sfm_lines.specs.declared.word.TermWord.TheVariants.{RankWord}
 use Rattle.sfm_lines.specs.Lines.{tokens_of}
-use Rattle.sfm_lines.specs.Parts.{IsMark, AreUnmarked}
+use Rattle.sfm_lines.specs.Parts.{IsSeparator, HaveNoSeparator}
 use Rattle.sfm_lines.specs.CutParts.{IsGroupCut, is_semicolon, cut_at_semicolons}
 use Rattle.sfm_lines.specs.RankLines.{members_of}
 use Rattle.sfm_lines.specs.Words.{word_text}
@@ -75,16 +75,16 @@ LacksMember elements piece = SomeGroup (λ cap names. Any (λ name. Contains ele
 
 -- the number, the elements and the pieces of the groups have the shape of the line
 pub record AreShapedGroups (number : List ℕ) (elements : List (List ℕ)) (pieces : List (List (List ℕ))) : Type 0 where
-  pub no_mark : IsMark number → ⊥
+  pub no_separator : IsSeparator number → ⊥
   pub some : 0 < length elements
-  pub unmarked : AreUnmarked elements
+  pub unmarked : HaveNoSeparator elements
   pub whole : All IsWhole pieces
 
 -- the number, the elements and the pieces of the groups have no reason before the law
 pub record AreGoodGroups (i : InstanceData) (number : List ℕ) (elements : List (List ℕ)) (pieces : List (List (List ℕ))) : Type 0 where
-  pub no_mark : IsMark number → ⊥
+  pub no_separator : IsSeparator number → ⊥
   pub some : 1 ≤ length elements
-  pub unmarked : AreUnmarked elements
+  pub unmarked : HaveNoSeparator elements
   pub whole : All IsWhole pieces
   pub is_number : IsNumberOf i.version RankWord number
   pub caps : All (HasCap i.version) pieces

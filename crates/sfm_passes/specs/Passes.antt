@@ -15,7 +15,7 @@ use Rattle.sfm_lines.specs.declared.word.RankKind.TheVariants.{NoRank, UniformRa
 use Rattle.sfm_lines.specs.declared.word.TermWord.{TermWord}
 use Rattle.sfm_lines.specs.declared.word.TermWord.TheVariants.{WeightWord, ConcaveWord, RankWord}
 use Rattle.sfm_lines.specs.Lines.{pieces_of, tokens_of}
-use Rattle.sfm_lines.specs.Parts.{LineParts, IsMark, IsPairToken, IsLabelToken}
+use Rattle.sfm_lines.specs.Parts.{LineParts, IsSeparator, IsPairToken, IsLabelToken}
 use Rattle.sfm_lines.specs.Words.{word_text, HasParts}
 use Rattle.sfm_lines.specs.TermLines.{IsNumberFor, StandsTwice}
 use Rattle.sfm_lines.specs.PlainLines.{FirstPlain}
@@ -73,7 +73,7 @@ RepeatsSlot token = (entry : List ℕ × List (List ℕ)) × IsLabelToken Transv
 
 -- elements with labels that have no reason before that something stands twice
 pub record AreGoodEntries (i : InstanceData) (rank : RankKind) (number colon : List ℕ) (tokens : List (List ℕ)) : Type 0 where
-  pub no_mark : IsMark number → ⊥
+  pub no_separator : IsSeparator number → ⊥
   pub is_colon : colon ≡ codes ":"
   pub each : All (Holds i (Labelled rank)) tokens
   pub is_number : IsNumberOf i.version RankWord number

@@ -4,7 +4,7 @@ ghost use Rattle.sfm_lines.specs.{Lines.{texts_of, tokens_of}, LabelTerms.{disti
 ghost use Rattle.sfm_passes.specs.{GroupPasses.{IsWhole, HasCap, IsOnce, GroupHolds, GroupFails, HasMembers, LacksMember, SomeGroup, pieces_left}, declared.group_test.GroupTest.TheVariants.{Cap}};
 
 use crate::between::Separator;
-use crate::passes::{has_mark_in, has_repeat_in};
+use crate::passes::{has_repeat_in, has_separator_in};
 use crate::piece_cut::first_piece;
 use crate::token_test::is_number_of;
 use indexmap::IndexSet;
@@ -37,7 +37,7 @@ fn is_whole(piece: &[u8]) -> bool
     if !has_token(names, 0) {
         return false;
     }
-    if has_mark_in(piece) {
+    if has_separator_in(piece) {
         return false;
     }
     true

@@ -15,4 +15,4 @@ mod token_test;
 
 pub use between::Separator;
 pub use long_line::{early_reason, early_term};
-pub use passes::{are_names_in, has_mark_in, has_repeat_in};
+pub use passes::{are_names_in, has_repeat_in, has_separator_in};

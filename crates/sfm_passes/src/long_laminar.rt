@@ -10,7 +10,7 @@ ghost use Rattle.sfm_passes.specs.{Passes.{IsReasonOf}, GroupPasses.{AreShapedGr
 
 use crate::between::Separator;
 use crate::group_test::{GroupTest, all_groups, are_members_in};
-use crate::passes::{all_hold, has_mark_in, has_repeat_in, is_colon};
+use crate::passes::{all_hold, has_repeat_in, has_separator_in, is_colon};
 use crate::piece_cut::first_piece;
 use crate::token_test::{TokenTest, is_number_of};
 use sfm_base::Memory;
@@ -18,7 +18,7 @@ use sfm_kind::{Instance, Kind};
 use sfm_laminar::{CappedGroup, Laminar};
 use sfm_lines::groups::members;
 use sfm_lines::kept::{keep, with_kept};
-use sfm_lines::mark::is_mark;
+use sfm_lines::separator::is_separator;
 use sfm_lines::term_line::{known_number, known_places};
 use sfm_lines::tokens::{first_token, has_token, tokens};
 use sfm_lines::word::TermWord;
@@ -42,13 +42,13 @@ fn are_shaped(
         → cut_at_semicolons behind ≡ tokens_of elements.now ∷ pieces_left groups.entry
         → IsReasonOf instance.now RankWord (laminar_tokens number.now behind) Shape)) }
 {
-    if is_mark(number) {
+    if is_separator(number) {
         return Ok(false);
     }
     if !has_token(elements, 0) {
         return Ok(false);
     }
-    if has_mark_in(elements) {
+    if has_separator_in(elements) {
         return Ok(false);
     }
     all_groups(alloc, instance, GroupTest::Whole, groups)

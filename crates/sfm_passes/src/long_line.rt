@@ -11,7 +11,7 @@ ghost use Rattle.sfm_passes.specs.{Passes.{IsReasonOf}, GroupPasses.{IsToldBy}};
 use crate::entry_line::entry_line_term;
 use crate::long_laminar::laminar_line_term;
 use crate::long_rank::{elements_reason, rank_kind, rank_reason};
-use crate::passes::{all_hold, colon_cut, first_hold, has_mark_in, token_count};
+use crate::passes::{all_hold, colon_cut, first_hold, has_separator_in, token_count};
 use crate::token_test::{TokenTest, is_number_of};
 use sfm_kind::{Instance, Kind};
 use sfm_lines::line_parts::are_counts;
@@ -57,7 +57,7 @@ fn cover_reason(instance: &Instance, line: &[u8]) -> Reason
     let Some((number, elements)) = first_token(line) else {
         return Reason::Shape;
     };
-    if has_mark_in(line) {
+    if has_separator_in(line) {
         return Reason::Shape;
     }
     if !is_number_of(instance, TermWord::CoverWord, number) {

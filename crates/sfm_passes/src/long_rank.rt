@@ -7,11 +7,11 @@ ghost use Rattle.sfm_kind.specs.Names.{AreElementNames};
 ghost use Rattle.sfm_lines.specs.{Lines.{tokens_of}, Parts.{LineParts, IsCutAtColon, IsUniformLine}, declared.word.TermWord.{TermWord}, declared.word.TermWord.TheVariants.{RankWord}};
 ghost use Rattle.sfm_passes.specs.Passes.{IsReasonOf, HasTooMany, IsRankNamed, HasLabels, label_word, AreGoodEntries};
 
-use crate::passes::{all_hold, has_mark_in, is_colon};
+use crate::passes::{all_hold, has_separator_in, is_colon};
 use crate::token_test::{TokenTest, is_number_of};
 use sfm_kind::Instance;
 use sfm_lines::Reason;
-use sfm_lines::mark::is_mark;
+use sfm_lines::separator::is_separator;
 use sfm_lines::tokens::{first_token, first_two, has_token};
 use sfm_lines::word::{RankKind, TermWord, is_word};
 
@@ -48,16 +48,16 @@ fn is_uniform_cut(number: &[u8], cap: &[u8], colon: &[u8], elements: &[u8]) -> b
         ((parts : LineParts) → IsUniformLine (number.now ∷ codes "uniform" ∷ cap.now ∷ colon.now
         ∷ tokens_of elements.now) parts → ⊥) }
 {
-    if is_mark(number) {
+    if is_separator(number) {
         return false;
     }
-    if is_mark(cap) {
+    if is_separator(cap) {
         return false;
     }
     if !is_colon(colon) {
         return false;
     }
-    if has_mark_in(elements) {
+    if has_separator_in(elements) {
         return false;
     }
     true
@@ -112,7 +112,7 @@ pub fn entries_fault(
         (IsReasonOf instance.now RankWord (number.now ∷ label_word rank ∷ colon.now
         ∷ tokens_of entries.now)) }
 {
-    if is_mark(number) {
+    if is_separator(number) {
         return Some(Reason::Shape);
     }
     if !is_colon(colon) {

@@ -2,7 +2,7 @@
 // another, and no list of them is made.
 ghost use Rattle.std.specs.{Prelude.{◌≡◌, ◌↔◌, ◌≤◌, ◌++◌, ℕ, List, length, take, codes, bytes_eq, Any, Contains, IsTrue, IfOk, MatchBool, MatchOption}, List.{All}};
 ghost use Rattle.sfm_spec.specs.Names.{IsName};
-ghost use Rattle.sfm_lines.specs.{Lines.{texts_of, tokens_of}, Parts.{IsMark, AreUnmarked, IsCutAtColon}, TermLines.{StandsTwice}};
+ghost use Rattle.sfm_lines.specs.{Lines.{texts_of, tokens_of}, Parts.{IsSeparator, HaveNoSeparator, IsCutAtColon}, TermLines.{StandsTwice}};
 ghost use Rattle.sfm_passes.specs.Passes.{Holds, Fails, IsKept, texts_between};
 
 use crate::between::{Separator, first_between};
@@ -10,7 +10,7 @@ use crate::token_test::{TokenTest, holds};
 use indexmap::IndexSet;
 use sfm_base::Memory;
 use sfm_kind::{Instance, is_name};
-use sfm_lines::mark::is_mark;
+use sfm_lines::separator::is_separator;
 use sfm_lines::tokens::first_token;
 use std::alloc::Global;
 
@@ -18,13 +18,13 @@ use std::alloc::Global;
 const MOST_KEPT: usize = 262_144;
 
 /// Whether some token of a line is a colon or a semicolon alone.
-pub fn has_mark_in(line: &[u8]) -> bool
-    ensures { MatchBool result (Any IsMark (tokens_of line.now))
-        (AreUnmarked (tokens_of line.now)) }
+pub fn has_separator_in(line: &[u8]) -> bool
+    ensures { MatchBool result (Any IsSeparator (tokens_of line.now))
+        (HaveNoSeparator (tokens_of line.now)) }
 {
     let mut left = line;
     while let Some((token, behind)) = first_token(left) {
-        if is_mark(token) {
+        if is_separator(token) {
             return true;
         }
         left = behind;
@@ -164,11 +164,11 @@ pub fn colon_cut(line: &[u8]) -> Option<(usize, &[u8])>
     let mut count = 0;
     let mut left = line;
     while let Some((token, behind)) = first_token(left) {
-        if is_mark(token) {
+        if is_separator(token) {
             if !is_colon(token) {
                 return None;
             }
-            if has_mark_in(behind) {
+            if has_separator_in(behind) {
                 return None;
             }
             return Some((count, behind));

@@ -9,7 +9,7 @@ use Rattle.sfm_spec.specs.Sets.{Has}
 use Rattle.sfm_kind.specs.Names.{AreElementNames}
 use Rattle.sfm_lines.specs.declared.reason.Reason.{Reason}
 use Rattle.sfm_lines.specs.declared.reason.Reason.TheVariants.{Long, Bytes, Word, Shape, Name, Twice, Short}
-use Rattle.sfm_lines.specs.Parts.{IsMark}
+use Rattle.sfm_lines.specs.Parts.{IsSeparator}
 use Rattle.sfm_lines.specs.TermLines.{StandsTwice}
 use Rattle.sfm_lines.specs.Reading.{reason_order}
 use Rattle.sfm_lines.specs.ReadParts.{IsKnown}
@@ -92,14 +92,14 @@ module _ (names : List (List ℕ)) (p : PinData) (pin : Pin) (texts : List (List
       at others same (inl (e, some, unmarked)) = some (same ∙ none)
       at others same (inr (e, some, unmarked)) = some (same ∙ none)
 
-  pub pin-marked : Any IsMark texts → IsFirstOf (HasPin names p (pin_word pin ∷ texts)) Shape
+  pub pin-marked : Any IsSeparator texts → IsFirstOf (HasPin names p (pin_word pin ∷ texts)) Shape
   pin-marked marks = pin-shape (λ others line. at others (one-texts pin others line) line)
     where
       at : (others : List (List ℕ)) → others ≡ texts → IsPinLine (pin_word pin ∷ texts) others → ⊥
       at others same (inl (e, some, unmarked)) = unmarked (rw same marks)
       at others same (inr (e, some, unmarked)) = unmarked (rw same marks)
 
-  module _ (some : texts ≢ []) (unmarked : Any IsMark texts → ⊥) where
+  module _ (some : texts ≢ []) (unmarked : Any IsSeparator texts → ⊥) where
     pin-line : (pin' : Pin) → IsPinLine (pin_word pin' ∷ texts) texts
     pin-line In = inl (refl, some, unmarked)
     pin-line Out = inr (refl, some, unmarked)

@@ -3,7 +3,7 @@ use Rattle.std.specs.Prelude.{◌≡◌, ◌≢◌, ◌⊎◌, ℕ, Bool, true, 
 use Rattle.std.specs.List.{All}
 use Rattle.sfm_spec.specs.Sets.{Has}
 use Rattle.sfm_lines.specs.declared.reason.Reason.{Reason}
-use Rattle.sfm_lines.specs.Parts.{IsMark}
+use Rattle.sfm_lines.specs.Parts.{IsSeparator}
 use Rattle.sfm_lines.specs.ReadParts.{IsKnown}
 use Rattle.sfm_text.specs.Language.{IsFirstOf}
 use Rattle.sfm_side.specs.declared.pins.Pins.{Pins}
@@ -52,10 +52,10 @@ PutsAgain names to other (text ∷ texts) = (e : ℕ) × (slice_get names e ≡ 
     × ((Has to e ⊎ Has other e)
     ⊎ ((Has to e → ⊥) × (Has other e → ⊥) × PutsAgain names (slice_set to e true) other texts))
 
--- the texts are names of elements, at least one, and none is a mark
+-- the texts are names of elements, at least one, and none is a separator
 pub record AreNamesGood (names texts : List (List ℕ)) : Type 0 where
   pub some : texts ≢ []
-  pub unmarked : Any IsMark texts → ⊥
+  pub unmarked : Any IsSeparator texts → ⊥
   pub known : All (IsKnown names) texts
 
 -- so they are, or a line of them has that reason first, whatever is pinned

@@ -4,7 +4,7 @@ use Rattle.sfm_spec.specs.Names.{IsName}
 use Rattle.sfm_spec.specs.Sets.{Has, empty_set}
 use Rattle.sfm_lines.specs.declared.reason.Reason.{Reason}
 use Rattle.sfm_lines.specs.declared.reason.Reason.TheVariants.{Word, Shape, Name, Twice}
-use Rattle.sfm_lines.specs.Parts.{IsMark}
+use Rattle.sfm_lines.specs.Parts.{IsSeparator}
 use Rattle.sfm_lines.specs.TermLines.{StandsTwice}
 use Rattle.sfm_side.specs.Side.{SideForm}
 
@@ -15,7 +15,7 @@ pub record PinData : Type 0 where
 
 -- the tokens are a word and at least one name behind it
 abbrev pub HasNames : List (List ℕ) → List ℕ → List (List ℕ) → Type 0
-HasNames tokens word texts = (tokens ≡ word ∷ texts) × (texts ≢ []) × (Any IsMark texts → ⊥)
+HasNames tokens word texts = (tokens ≡ word ∷ texts) × (texts ≢ []) × (Any IsSeparator texts → ⊥)
 
 -- the tokens are those of a line of pins, with these names
 abbrev pub IsPinLine : List (List ℕ) → List (List ℕ) → Type 0

@@ -12,7 +12,7 @@ use crate::passes::{TokenTest, all_pass};
 use sfm_base::Set;
 use sfm_kind::Instance;
 use sfm_lines::tokens::first_token;
-use sfm_passes::has_mark_in;
+use sfm_passes::has_separator_in;
 use sfm_text::{Reason, TextEnd, behind};
 use std::alloc::Global;
 
@@ -52,7 +52,7 @@ fn names_reason(instance: &Instance, line: &[u8]) -> Option<Reason>
     let Some(_) = first_token(line) else {
         return Some(Reason::Shape);
     };
-    if has_mark_in(line) {
+    if has_separator_in(line) {
         return Some(Reason::Shape);
     }
     if !all_pass(instance, TokenTest::Element, line) {

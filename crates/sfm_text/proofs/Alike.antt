@@ -20,7 +20,7 @@ use Rattle.sfm_lines.specs.TermLines.{StandsTwice}
 use Rattle.sfm_text.proofs.Orders.{first_once}
 use Rattle.sfm_text.proofs.Readings.{IsKept}
 use Rattle.sfm_text.proofs.TooMuch.{support-cons, much-by-total, total-by-much}
-use Rattle.sfm_lines.specs.Reading.{State, start, HasReason, HasAt, AreTooMuch, Says, Adds, Takes}
+use Rattle.sfm_lines.specs.Reading.{State, start, HasReason, HasAt, HasTermReason, AreTooMuch, Says, Adds, Takes}
 use Rattle.sfm_text.specs.GoodText.{instance_language}
 use Rattle.sfm_lines.proofs.WordLines.{not-end}
 use Rattle.sfm_lines.proofs.Repeats.{twice-at}
@@ -65,7 +65,7 @@ much-alike s t places total same (inr (inr (meant, means, many))) =
     much-by-total t.version t.lines t.terms places total (omega (arith, ints, much, size, most))
 
 -- what a term line has in the one state, it has in the other
-pub term-alike : (s t : State) (tokens : List (List ℕ)) (reason : Reason) → Alike s t → HasAt Terms s tokens reason → HasAt Terms t tokens reason
+pub term-alike : (s t : State) (tokens : List (List ℕ)) (reason : Reason) → Alike s t → HasTermReason s tokens reason → HasTermReason t tokens reason
 term-alike s t tokens Word same g = g
 term-alike s t tokens Name same g = rw (same.version, same.names) at g
 term-alike s t tokens Total same (term, weights, says, (places, total, brings, many)) = (term, weights, rw (same.version, same.names) at says, (places, total, brings, much-alike s t places total same many))

@@ -12,7 +12,7 @@ use Rattle.sfm_lines.specs.declared.stage.Stage.TheVariants.{Header, Ground, Ter
 use Rattle.sfm_lines.specs.declared.word.TermWord.{TermWord}
 use Rattle.sfm_lines.specs.declared.word.TermWord.TheVariants.{RankWord}
 use Rattle.sfm_lines.specs.Lines.{tokens_of}
-use Rattle.sfm_lines.specs.Parts.{LineParts, IsMark, AreUnmarked}
+use Rattle.sfm_lines.specs.Parts.{LineParts, IsSeparator, HaveNoSeparator}
 use Rattle.sfm_lines.specs.Versions.{header_tokens}
 use Rattle.sfm_lines.specs.Words.{word_text}
 use Rattle.sfm_lines.specs.TermLines.{StandsTwice}
@@ -51,10 +51,10 @@ one-text (a ∷ []) d x n e = ap (λ (l : List ℕ). l ∷ []) e
 one-text (a ∷ b ∷ texts) d x n e = absurd (omega arith)
 
 -- the word of the ground line is no mark
-pub ground-unmarked : (names : List (List ℕ)) → AreUnmarked names → AreUnmarked (codes "ground" ∷ names)
-ground-unmarked names unmarked = all-more (λ token. IsMark token → ⊥) (codes "ground") names _ refl no-mark unmarked
+pub ground-unmarked : (names : List (List ℕ)) → HaveNoSeparator names → HaveNoSeparator (codes "ground" ∷ names)
+ground-unmarked names unmarked = all-more (λ token. IsSeparator token → ⊥) (codes "ground") names _ refl no-mark unmarked
   where
-    no-mark : IsMark (codes "ground") → ⊥
+    no-mark : IsSeparator (codes "ground") → ⊥
     no-mark (inl e) = absurd (omega (arith, ap length e))
     no-mark (inr e) = absurd (omega (arith, ap length e))
 
@@ -84,15 +84,15 @@ module _ (i : InstanceData) (line : List ℕ) where
         cc
 
     -- the ground line, with a mark among its tokens
-    pub ground-shape : Any IsMark (codes "ground" ∷ names) → FirstReason (state_at Ground i) line Shape
+    pub ground-shape : Any IsSeparator (codes "ground" ∷ names) → FirstReason (state_at Ground i) line Shape
     ground-shape marks = record {
       holds = rw is.tokens_are marks;
       first = none-below (state_at Ground i) line 3 (λ lt h. is.good_bytes h) (λ lt h. h names is.tokens_are) (λ lt. absurd (omega arith)) (λ lt. absurd (omega arith)) (λ lt. absurd (omega arith)) (λ lt. absurd (omega arith)) (λ lt. absurd (omega arith)) (λ lt. absurd (omega arith));
     }
 
-    module _ (unmarked : AreUnmarked (codes "ground" ∷ names)) where
+    module _ (unmarked : HaveNoSeparator (codes "ground" ∷ names)) where
       no-mark : HasReason (state_at Ground i) line Shape → ⊥
-      no-mark h = none-any IsMark (codes "ground" ∷ names) unmarked (rw is.tokens_are at h)
+      no-mark h = none-any IsSeparator (codes "ground" ∷ names) unmarked (rw is.tokens_are at h)
 
       pub ground-name : Any (λ text. IsName text → ⊥) names → FirstReason (state_at Ground i) line Name
       ground-name wrong = record {

@@ -4,7 +4,7 @@ use Rattle.std.specs.List.{All}
 use Rattle.sfm_spec.specs.Names.{IsName}
 use Rattle.sfm_lines.specs.declared.line_fault.LineEnd.{LineEnd}
 use Rattle.sfm_lines.specs.Lines.{tokens_of, are_skipped}
-use Rattle.sfm_lines.specs.Parts.{AreUnmarked}
+use Rattle.sfm_lines.specs.Parts.{HaveNoSeparator}
 use Rattle.sfm_lines.specs.TermLines.{StandsTwice}
 use Rattle.sfm_lines.specs.Reading.{State, Takes, IsLineRefusal}
 use Rattle.sfm_lines.specs.ReadParts.{state_at, IsLineOf}
@@ -19,7 +19,7 @@ IsOutcome s tokens result t = (line : List ℕ) → IsLineOf line tokens → Mat
 
 -- the names of a ground line have no reason
 pub record AreGroundNames (names : List (List ℕ)) : Type 0 where
-  pub unmarked : AreUnmarked names
+  pub unmarked : HaveNoSeparator names
   pub forms : All IsName names
   pub distinct : StandsTwice names → ⊥
   pub few : length names ≤ 256

@@ -10,7 +10,7 @@ use sfm_base::Memory;
 use sfm_kind::{Instance, Version};
 use sfm_lines::tokens::{first_token, has_token, is_skipped, token};
 use sfm_lines::{LineEnd, Reason, Stage};
-use sfm_passes::{Separator, are_names_in, has_mark_in, has_repeat_in};
+use sfm_passes::{Separator, are_names_in, has_repeat_in, has_separator_in};
 use std::alloc::Global;
 
 /// The most names of a ground.
@@ -120,7 +120,7 @@ fn names_fault(alloc: Global, names: &[u8]) -> Result<Option<Reason>, Memory>
         → IsLineOf line (codes "ground" ∷ tokens_of names.now)
         → FirstReason (state_at Ground instance) line reason)) }
 {
-    if has_mark_in(names) {
+    if has_separator_in(names) {
         return Ok(Some(Reason::Shape));
     }
     if !are_names_in(names) {

@@ -2,7 +2,7 @@
 use Rattle.std.specs.Prelude.{◌≡◌, ◌≢◌, ◌⊎◌, ℕ, ◌<◌, Bool, false, List, [], ◌∷◌, ◌++◌, length, codes, Option, Some, None}
 use Rattle.std.specs.Borrow.{Bor}
 use Rattle.std.specs.List.{All, AllZip}
-use Rattle.sfm_lines.specs.Parts.{IsMark}
+use Rattle.sfm_lines.specs.Parts.{IsSeparator}
 use Rattle.sfm_lines.specs.Tokens.{is_blank}
 use Rattle.sfm_lines.specs.Weights.{IsWeighed}
 
@@ -16,9 +16,9 @@ pub record IsHeadCut (tokens head behind : List (List ℕ)) : Type 0 where
   pub cut : tokens ≡ head ++ codes ":" ∷ behind
   pub no_colon : All (λ token. token ≢ codes ":") head
 
--- the token is that of an element, which is no mark, with or without a weight
+-- the token is that of an element, which is no separator, with or without a weight
 abbrev pub IsEntryOf : List ℕ → List ℕ × Option (List ℕ) → Type 0
-IsEntryOf token entry = IsWeighed token entry × (IsMark entry.0 → ⊥)
+IsEntryOf token entry = IsWeighed token entry × (IsSeparator entry.0 → ⊥)
 
 -- the elements of the tokens before the first semicolon alone, and the tokens from it on
 pub record AreEntriesOf (tokens : List (List ℕ)) (entries : List (List ℕ × Option (List ℕ))) (behind : List (List ℕ)) : Type 0 where

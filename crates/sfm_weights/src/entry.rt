@@ -4,8 +4,8 @@ ghost use Rattle.sfm_lines.specs.Weights.{IsWeighed, IsWeightText};
 ghost use Rattle.sfm_weights.specs.Plain.{IsEntryOf, text_at};
 
 use sfm_base::read_number;
-use sfm_lines::mark::is_mark;
 use sfm_lines::pair::{cut_once, place_of_byte};
+use sfm_lines::separator::is_separator;
 
 /// The greatest weight of an element.
 const MOST_WEIGHT: i128 = 1_000_000_000_000_000;
@@ -42,7 +42,7 @@ fn cut_weight(token: &[u8]) -> Option<(&[u8], Option<&[u8]>)>
     Some((front, Some(weight)))
 }
 
-/// The same, and None also where what stands for the element is a mark.
+/// The same, and None also where what stands for the element is a separator.
 pub(crate) fn entry_of(token: &[u8]) -> Option<(&[u8], Option<&[u8]>)>
     ensures { MatchOption result
         ((entry : List ℕ × Option (List ℕ)) → IsEntryOf token.now entry → ⊥)
@@ -51,7 +51,7 @@ pub(crate) fn entry_of(token: &[u8]) -> Option<(&[u8], Option<&[u8]>)>
     let Some((element, weight)) = cut_weight(token) else {
         return None;
     };
-    if is_mark(element) {
+    if is_separator(element) {
         return None;
     }
     Some((element, weight))

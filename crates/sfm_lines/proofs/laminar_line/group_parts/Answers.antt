@@ -22,7 +22,7 @@ returns c =
         rest = text_lists_of c.in-Some.rest.now;
         pieces_are = first-lists c.args.pieces.now c.in-Some.elements.now c.in-Some.rest.now c.in-Some.ensures.cases;
         some = some-texts elements c.if-is_empty.ensures;
-        unmarked = c.if-has_mark.ensures;
+        unmarked = c.if-has_separator.ensures;
         each = each;
       },
       is ∙ ap (λ (p : LineParts). with_groups p groups) c.in_ok-parts.ensures,

@@ -1,22 +1,22 @@
 // The tokens `:` and `;`, which stand between the parts of a line, and nowhere else.
 ghost use Rattle.std.specs.{Prelude.{◌≢◌, ◌↔◌, ℕ, ◌<◌, List, length, codes, IsTrue, IfSome, Any, MatchBool, MatchOption}, List.{All}};
-ghost use Rattle.sfm_lines.specs.{Lines.{texts_of}, Parts.{IsMark, AreUnmarked, IsCutAtColon}, CutParts.{IsFirstColon}};
+ghost use Rattle.sfm_lines.specs.{Lines.{texts_of}, Parts.{IsSeparator, HaveNoSeparator, IsCutAtColon}, CutParts.{IsFirstColon}};
 
 /// Whether the token is a colon or a semicolon alone.
-pub fn is_mark(token: &[u8]) -> bool
-    ensures { IsTrue result ↔ IsMark token.now }
+pub fn is_separator(token: &[u8]) -> bool
+    ensures { IsTrue result ↔ IsSeparator token.now }
 {
     token == b":".as_slice() || token == b";".as_slice()
 }
 
 /// Whether some token is a colon or a semicolon alone.
-pub fn has_mark(tokens: &[&[u8]]) -> bool
+pub fn has_separator(tokens: &[&[u8]]) -> bool
     ensures { MatchBool result
-        (Any IsMark (texts_of tokens.now))
-        (AreUnmarked (texts_of tokens.now)) }
+        (Any IsSeparator (texts_of tokens.now))
+        (HaveNoSeparator (texts_of tokens.now)) }
 {
     for token in tokens {
-        if is_mark(token) {
+        if is_separator(token) {
             return true;
         }
     }
@@ -49,7 +49,7 @@ pub fn cut_at_colon<'a, 'b>(tokens: &'b [&'a [u8]]) -> Option<(&'b [&'a [u8]], &
     };
     let before = &tokens[..at];
     let behind = &tokens[at + 1..];
-    if has_mark(before) || has_mark(behind) {
+    if has_separator(before) || has_separator(behind) {
         return None;
     }
     Some((before, behind))

@@ -2,7 +2,7 @@ use Rattle.std.proofs.Common.{◌≢◌, codes, sym, ◌∙◌}
 use Rattle.std.proofs.lemmas.Slice.Eq.{bytes_eq-Decides}
 use Rattle.sfm_lines.proofs.Colons.{first-here}
 use Rattle.sfm_lines.proofs.Repeats.{All-texts-end}
-use Rattle.sfm_lines.proofs.mark.colon_place.Goals as goal
+use Rattle.sfm_lines.proofs.separator.colon_place.Goals as goal
 
 pub returns-then-eq-clause-first : goal.returns-then-eq-clause-first
 returns-then-eq-clause-first c = first-here c.args.tokens.now c.loop-i.i _ c.loop-i-test.true ((bytes_eq-Decides _ _).0 (sym c.if-eq.ensures) ∙ c.as_slice.ensures) c.loop-i.invariant
