@@ -133,6 +133,33 @@ pub fn restart_by<T: Term>(
     Ok(())
 }
 
+/// The exchange graph of q times the terms at bases of theirs over a ground of n places, as `graph_at` makes it. Where these
+/// are q times the bases of another graph, one of the terms themselves, no term is asked for its rows: what that graph keeps
+/// is copied, and rows that are only claimed there are so here.
+///
+/// # Errors
+///
+/// `Memory` where there is none.
+pub fn graph_by<T: Term>(
+    alloc: Global,
+    terms: &[T],
+    n: usize,
+    q: i128,
+    bases: Rows,
+    other: &Graph<T::Note>,
+) -> Result<Graph<T::Note>, Memory>
+    requires factor { IsFactor q }
+    requires other { IsClaimed T.places T.value_of T.size_of T.fits terms.now n (pos 1) other.now }
+    requires bases { AreBases q (meanings T.places T.value_of terms.now) bases }
+    requires small { All (λ x. All IsEntry x) bases }
+    ensures graph { IfOk result (IsClaimed T.places T.value_of T.size_of T.fits terms.now n q) }
+    ensures bases { IfOk result (λ r. r.bases ≡ bases) }
+{
+    let mut graph = blank_graph(alloc, terms, n)?;
+    restart_by(alloc, &mut graph, terms, q, bases, other)?;
+    Ok(graph)
+}
+
 /// The same graph once more.
 ///
 /// # Errors
