@@ -1,6 +1,6 @@
 -- The words behind that of a subcommand, for each form of them: where clap finds no fault it takes
 -- them, and finds a command; and where they are plain, theirs.
-use Rattle.std.proofs.Common.{◌^◌, ◌≡◌, ◌≤◌, ◌⊎◌, ◌==◌, ◌||◌, ℕ, Bool, List, [], ◌∷◌, refl, true, false, Some, None, inl, inr, codes, cond}
+use Rattle.std.proofs.Common.{◌^◌, ◌≡◌, ◌≤◌, ◌⊎◌, ◌==◌, ◌||◌, ℕ, Bool, List, [], ◌∷◌, refl, true, false, Some, None, inl, inr, codes, cond, get_or}
 use Rattle.std.specs.Prelude.{⊤, nat_lt}
 use Rattle.std.specs.Map.{lookup}
 use Rattle.std.specs.Str.{bytes_eq}
@@ -16,7 +16,7 @@ use Rattle.clap.specs.declared.builder.value_parser.ValueParser.TheVariants.{Non
 use Rattle.clap.proofs.WalkLemmas.{both}
 use Rattle.sfm_words.specs.Line.{app_of, sfm_line}
 use Rattle.sfm_words.specs.Command.{Command}
-use Rattle.sfm_words.specs.Subcommand.{Maker, one, two, three, number, subcommands}
+use Rattle.sfm_words.specs.Subcommand.{Maker, files, number, subcommands}
 use Rattle.sfm_words.proofs.Turns.{HasHelpOnly, help, not_none, holding}
 use Rattle.sfm_words.proofs.Levels.{Ends, Handles, HasSmallSeed, HoldsCommand, Then, handles_end, handles_place}
 use Rattle.sfm_words.proofs.Places.{IsHeld, has_place, holds, nothing, row, taken_at_end, waiting}
@@ -53,15 +53,24 @@ name = NonEmptyString
 abbrev whole : ValueParser
 whole = Unsigned 0 999999999
 
+-- words that are plainly names of files, one for each argument, and the command that they make
+abbrev pub PlainNames : List Text → (List Text → Command) → List Text → Command → Type 0
+PlainNames [] make = Ends (make [])
+PlainNames (a ∷ names) make = Then name (λ x. PlainNames names (λ texts. make (x ∷ texts)))
+
+-- the command that is made of the texts, each by its place
+abbrev pub made_by : ((ℕ → Text) → Command) → List Text → Command
+made_by make texts = make (λ i. get_or texts i [])
+
 -- the number of a text
 abbrev pub value_of : Text → ℕ
 value_of text = digits_value 10 (without_leading_plus text)
 
-module _ (verb a : Text) (make : Text → Command)
-    (listed : lookup (λ word. bytes_eq word verb) subcommands ≡ Some (one a make))
-    (small : (x : Text) → HasSmallSeed (make x)) where
+module _ (verb a : Text) (make : (ℕ → Text) → Command)
+    (listed : lookup (λ word. bytes_eq word verb) subcommands ≡ Some (files (a ∷ []) make))
+    (small : (given : ℕ → Text) → HasSmallSeed (make given)) where
   abbrev one_sub : Shape
-  one_sub = sub_of verb (one a make)
+  one_sub = sub_of verb (files (a ∷ []) make)
 
   one_helps : HasHelpOnly one_sub.rules
   one_helps = has_help_only _ (λ long. refl) (λ short. refl)
@@ -70,17 +79,18 @@ module _ (verb a : Text) (make : Text → Command)
       (row name a x ∷ [])
   one_a x = waiting name 1 a [] _ x (rw (same a) refl) refl refl
 
-  one_words : HandlesWords one_sub (Then name (λ x. Ends (make x)))
+  one_words : HandlesWords one_sub (PlainNames (a ∷ []) (made_by make))
   one_words = handles_place one_sub one_helps [] None 1
       (has_place nothing refl name 1 a refl refl refl (λ e. not_none _ _ e)) name _ (λ x.
-      handles_end one_sub one_helps [] (Some (a, x ∷ [])) 2 (make x) refl (taken_at_end (one_a x))
-      (holds (one_a x) refl (make x) refl (rw (same a) refl) (rw (listed, same a) refl) (small x)))
+      handles_end one_sub one_helps [] (Some (a, x ∷ [])) 2 (made_by make (x ∷ [])) refl
+      (taken_at_end (one_a x)) (holds (one_a x) refl (made_by make (x ∷ [])) refl
+      (rw (same a) refl) (rw (listed, same a) refl) (small _)))
 
-module _ (verb a b : Text) (make : Text → Text → Command)
-    (listed : lookup (λ word. bytes_eq word verb) subcommands ≡ Some (two a b make))
-    (ab : bytes_eq a b ≡ false) (small : (x y : Text) → HasSmallSeed (make x y)) where
+module _ (verb a b : Text) (make : (ℕ → Text) → Command)
+    (listed : lookup (λ word. bytes_eq word verb) subcommands ≡ Some (files (a ∷ b ∷ []) make))
+    (ab : bytes_eq a b ≡ false) (small : (given : ℕ → Text) → HasSmallSeed (make given)) where
   abbrev two_sub : Shape
-  two_sub = sub_of verb (two a b make)
+  two_sub = sub_of verb (files (a ∷ b ∷ []) make)
 
   two_helps : HasHelpOnly two_sub.rules
   two_helps = has_help_only _ (λ long. refl) (λ short. refl)
@@ -93,22 +103,22 @@ module _ (verb a b : Text) (make : Text → Text → Command)
       (accepts false name y ≡ true) (row name a x ∷ row name b y ∷ [])
   two_b x y = waiting name 2 b _ _ y (rw (ab, same b) refl) (rw ab refl) (rw (ab, ab) refl)
 
-  two_words : HandlesWords two_sub (Then name (λ x. Then name (λ y. Ends (make x y))))
+  two_words : HandlesWords two_sub (PlainNames (a ∷ b ∷ []) (made_by make))
   two_words = handles_place two_sub two_helps [] None 1
       (has_place nothing refl name 1 a refl refl refl (λ e. not_none _ _ e)) name _ (λ x.
       handles_place two_sub two_helps [] (Some (a, x ∷ [])) 2
       (has_place (two_a x) refl name 2 b refl ab refl
       (λ e. not_none _ _ (rw (same a, ab) at e))) name _ (λ y.
-      handles_end two_sub two_helps _ (Some (b, y ∷ [])) 3 (make x y) refl
-      (taken_at_end (two_b x y)) (holds (two_b x y) refl (make x y) refl
-      (rw (same a, ab, same b) refl) (rw (listed, same a, ab, same b) refl) (small x y))))
+      handles_end two_sub two_helps _ (Some (b, y ∷ [])) 3 (made_by make (x ∷ y ∷ [])) refl
+      (taken_at_end (two_b x y)) (holds (two_b x y) refl (made_by make (x ∷ y ∷ [])) refl
+      (rw (same a, ab, same b) refl) (rw (listed, same a, ab, same b) refl) (small _))))
 
-module _ (verb a b c : Text) (make : Text → Text → Text → Command)
-    (listed : lookup (λ word. bytes_eq word verb) subcommands ≡ Some (three a b c make))
+module _ (verb a b c : Text) (make : (ℕ → Text) → Command)
+    (listed : lookup (λ word. bytes_eq word verb) subcommands ≡ Some (files (a ∷ b ∷ c ∷ []) make))
     (ab : bytes_eq a b ≡ false) (ac : bytes_eq a c ≡ false) (bc : bytes_eq b c ≡ false)
-    (small : (x y z : Text) → HasSmallSeed (make x y z)) where
+    (small : (given : ℕ → Text) → HasSmallSeed (make given)) where
   abbrev three_sub : Shape
-  three_sub = sub_of verb (three a b c make)
+  three_sub = sub_of verb (files (a ∷ b ∷ c ∷ []) make)
 
   three_helps : HasHelpOnly three_sub.rules
   three_helps = has_help_only _ (λ long. refl) (λ short. refl)
@@ -127,8 +137,7 @@ module _ (verb a b c : Text) (make : Text → Text → Text → Command)
   three_c x y z = waiting name 3 c _ _ z (rw (ac, bc, same c) refl) (rw (ac, bc) refl)
       (rw (ac, bc, ac, bc) refl)
 
-  three_words : HandlesWords three_sub
-      (Then name (λ x. Then name (λ y. Then name (λ z. Ends (make x y z)))))
+  three_words : HandlesWords three_sub (PlainNames (a ∷ b ∷ c ∷ []) (made_by make))
   three_words = handles_place three_sub three_helps [] None 1
       (has_place nothing refl name 1 a refl refl refl (λ e. not_none _ _ e)) name _ (λ x.
       handles_place three_sub three_helps [] (Some (a, x ∷ [])) 2
@@ -137,10 +146,10 @@ module _ (verb a b c : Text) (make : Text → Text → Text → Command)
       handles_place three_sub three_helps _ (Some (b, y ∷ [])) 3
       (has_place (three_b x y) refl name 3 c refl bc refl
       (λ e. not_none _ _ (rw (same a, ab, same b, ac, bc) at e))) name _ (λ z.
-      handles_end three_sub three_helps _ (Some (c, z ∷ [])) 4 (make x y z) refl
-      (taken_at_end (three_c x y z)) (holds (three_c x y z) refl (make x y z) refl
+      handles_end three_sub three_helps _ (Some (c, z ∷ [])) 4 (made_by make (x ∷ y ∷ z ∷ [])) refl
+      (taken_at_end (three_c x y z)) (holds (three_c x y z) refl (made_by make (x ∷ y ∷ z ∷ [])) refl
       (rw (same a, ab, same b, ac, bc, same c) refl)
-      (rw (listed, same a, ab, same b, ac, bc, same c) refl) (small x y z)))))
+      (rw (listed, same a, ab, same b, ac, bc, same c) refl) (small _)))))
 
 module _ (verb a : Text) (make : ℕ → Command)
     (listed : lookup (λ word. bytes_eq word verb) subcommands ≡ Some (number a make))
@@ -174,27 +183,32 @@ module _ (verb a : Text) (make : ℕ → Command)
 
 -- ---- any form
 
+-- one to three names, which are apart
+abbrev pub AreApart : List Text → Type 0
+AreApart (a ∷ []) = ⊤
+AreApart (a ∷ b ∷ []) = bytes_eq a b ≡ false
+AreApart (a ∷ b ∷ c ∷ []) =
+    (bytes_eq a b ≡ false) × (bytes_eq a c ≡ false) × (bytes_eq b c ≡ false)
+AreApart names = ⊥
+
 -- the names of the arguments are apart, and the line takes the seed of a command that has one
 abbrev pub IsGood : Maker → Type 0
-IsGood (one a make) = (x : Text) → HasSmallSeed (make x)
-IsGood (two a b make) = (bytes_eq a b ≡ false) × ((x y : Text) → HasSmallSeed (make x y))
-IsGood (three a b c make) = (bytes_eq a b ≡ false) × (bytes_eq a c ≡ false)
-    × (bytes_eq b c ≡ false) × ((x y z : Text) → HasSmallSeed (make x y z))
+IsGood (files names make) = AreApart names × ((given : ℕ → Text) → HasSmallSeed (make given))
 IsGood (number a make) = (n : ℕ) → n ≤ 999999999 → HasSmallSeed (make n)
 
 -- words that are plainly those of the form, and their command
 abbrev pub PlainWords : Maker → List Text → Command → Type 0
-PlainWords (one a make) = Then name (λ x. Ends (make x))
-PlainWords (two a b make) = Then name (λ x. Then name (λ y. Ends (make x y)))
-PlainWords (three a b c make) =
-    Then name (λ x. Then name (λ y. Then name (λ z. Ends (make x y z))))
+PlainWords (files names make) = PlainNames names (made_by make)
 PlainWords (number a make) = Then whole (λ x. Ends (make (value_of x)))
 
 pub handles_words : (verb : Text) (maker : Maker)
     → lookup (λ word. bytes_eq word verb) subcommands ≡ Some maker → IsGood maker
     → HandlesWords (sub_of verb maker) (PlainWords maker)
-handles_words verb (one a make) listed small = one_words verb a make listed small
-handles_words verb (two a b make) listed (ab, small) = two_words verb a b make listed ab small
-handles_words verb (three a b c make) listed (ab, ac, bc, small) =
+handles_words verb (files [] make) listed good = absurd good.0
+handles_words verb (files (a ∷ []) make) listed (apart, small) = one_words verb a make listed small
+handles_words verb (files (a ∷ b ∷ []) make) listed (ab, small) =
+    two_words verb a b make listed ab small
+handles_words verb (files (a ∷ b ∷ c ∷ []) make) listed ((ab, ac, bc), small) =
     three_words verb a b c make listed ab ac bc small
+handles_words verb (files (a ∷ b ∷ c ∷ d ∷ names) make) listed good = absurd good.0
 handles_words verb (number a make) listed small = number_words verb a make listed small

@@ -1,12 +1,13 @@
 -- The words of the whole command line: where clap finds no fault it takes them, and its matches hold a command; and so it does where they are
 -- of a plain form.
-use Rattle.std.proofs.Common.{◌≡◌, ◌∙◌, ◌==◌, ◌<◌, ◌^◌, true≢false, ℕ, lt-ltb, le-leb, Bool, List, [], ◌∷◌, ◌++◌, arith, refl, sym, ap, cond, map, subst, true, false, Option, Some, None, inl, inr, codes}
-use Rattle.std.specs.Prelude.{⊤, nat_le, nat_lt, find, fold, is_some, option_and_then, option_map}
+use Rattle.std.proofs.Common.{◌≡◌, ◌∙◌, ◌==◌, ◌<◌, ◌^◌, true≢false, ℕ, lt-ltb, le-leb, Bool, List, [], ◌∷◌, ◌++◌, arith, refl, sym, ap, cond, length, map, subst, true, false, Option, Some, None, inl, inr, codes}
+use Rattle.std.specs.Prelude.{⊤, All, nat_le, nat_lt, find, fold, is_some, option_and_then, option_map}
 use Rattle.std.specs.Map.{lookup}
 use Rattle.std.specs.Option.{option_map_or, unwrap_or}
 use Rattle.std.specs.Str.{bytes_eq}
 use Rattle.std.proofs.lemmas.Slice.Eq.{bytes_eq-Decides}
 use Rattle.std.proofs.lemmas.Bool.Decides.{Decides-eqb}
+use Rattle.std.proofs.lemmas.List.Elements.{All-head, All-tail}
 use Rattle.std.specs.Str.Parse.{digits_value, without_leading_plus}
 use Rattle.std.proofs.lemmas.Int.Digits.{digits_value-lt}
 use Rattle.std.proofs.lemmas.Str.Parse.{digit_from_value, without_leading_plus_none}
@@ -20,12 +21,12 @@ use Rattle.clap.specs.Faults.{defaults_fault, entered_fault, fault_of, is_simple
 use Rattle.clap.specs.Takes.{entered_passes, level_passes, turn_passes, walk_passes}
 use Rattle.clap.proofs.WalkLemmas.{find-map, walk_stopped}
 use Rattle.sfm_words.specs.Command.{Asks, Command, IsFileName, IsForm, IsPlainFor, IsSeed, command_by}
-use Rattle.sfm_words.specs.Subcommand.{Maker, number, one, subcommands, three, two}
+use Rattle.sfm_words.specs.Subcommand.{Maker, files, number, subcommands}
 use Rattle.sfm_words.specs.Line.{sfm_line}
 use Rattle.sfm_words.proofs.Numbers.{numeral_told}
 use Rattle.sfm_words.proofs.Turns.{HasHelpOnly, at, dashes, dashes_or_value, none_of, not_none, value_fault, some_word}
 use Rattle.sfm_words.proofs.Levels.{Handles, HasSmallSeed, IsFree, IsPlain, Reaches}
-use Rattle.sfm_words.proofs.Forms.{IsGood, PlainWords, handles_words, has_help_only, sub_of, value_of}
+use Rattle.sfm_words.proofs.Forms.{IsGood, PlainNames, PlainWords, handles_words, has_help_only, made_by, sub_of, value_of}
 
 pub line_is_simple : is_simple_and_free sfm_line ≡ true
 line_is_simple = refl
@@ -86,7 +87,7 @@ good_row word maker (row ∷ rows) good e = go (bytes_eq row.0 word) e (good_row
     go false e more = more e
 
 all_good : AreGood subcommands
-all_good = (λ x. tt, ((refl, λ x y. tt), (λ n small. small, ((refl, λ x y. tt), ((refl, refl, refl, λ x y z. tt), ((refl, λ x y. tt), (λ x. tt, ((refl, λ x y. tt), ((refl, λ x y. tt), ((refl, refl, refl, λ x y z. tt), tt))))))))))
+all_good = ((tt, λ given. tt), ((refl, λ given. tt), (λ n small. small, ((refl, λ given. tt), (((refl, refl, refl), λ given. tt), ((refl, λ given. tt), ((tt, λ given. tt), ((refl, λ given. tt), ((refl, λ given. tt), (((refl, refl, refl), λ given. tt), tt))))))))))
 
 -- a verb of the table, and the subcommand that it names
 module _ (verb : Text) (maker : Maker) (listed : lookup (λ word. bytes_eq word verb) subcommands ≡ Some maker) where
@@ -243,15 +244,23 @@ seed_is_plain make (x ∷ xs) seed is =
       rw unsigned (ap make is.3),
     )
 
+names_are_plain : (names : List Text) (make : List Text → Command) (words : List Text) (command : Command)
+    → length words ≡ length names → All IsFileName words → make words ≡ command
+    → PlainNames names make words command
+names_are_plain [] make [] command size all made = made
+names_are_plain [] make (x ∷ words) command size all made = absurd (omega (arith, size))
+names_are_plain (a ∷ names) make [] command size all made = absurd (omega (arith, size))
+names_are_plain (a ∷ names) make (x ∷ words) command size all made = (
+  name_is_plain x (All-head IsFileName x words all),
+  names_are_plain names (λ texts. make (x ∷ texts)) words command (omega (arith, size))
+      (All-tail IsFileName x words all) made,
+)
+
 -- words of the plain form of a subcommand are plainly those behind its own
 plain_words : (maker : Maker) (words : List Text) (command : Command) → IsPlainFor maker words command
     → PlainWords maker words command
-plain_words (one a make) words command (x, is, f, made) =
-    rw is (name_is_plain x f, made)
-plain_words (two a b make) words command (x, y, is, f, g, made) =
-    rw is (name_is_plain x f, (name_is_plain y g, made))
-plain_words (three a b c make) words command (x, y, z, is, f, g, h, made) =
-    rw is (name_is_plain x f, (name_is_plain y g, (name_is_plain z h, made)))
+plain_words (files names make) words command (size, all, made) =
+    names_are_plain names (made_by make) words command size all made
 plain_words (number a make) words command (x, seed, is, s, made) =
     let (plain, same) = seed_is_plain make x seed s in
     rw is (plain, same ∙ made)

@@ -1,5 +1,5 @@
 -- The words that ask for a command.
-use Rattle.std.specs.Prelude.{◌≡◌, ◌≢◌, ◌<◌, ◌≤◌, ◌^◌, ◌&&◌, ℕ, List, [], ◌∷◌, true, false, Option, Some, None, if◌then◌else◌, length, slice_index, nat_lt, codes, option_map, option_and_then}
+use Rattle.std.specs.Prelude.{◌≡◌, ◌≢◌, ◌<◌, ◌≤◌, ◌^◌, ◌&&◌, ℕ, List, [], ◌∷◌, true, false, All, Option, Some, None, if◌then◌else◌, length, get_or, slice_index, nat_lt, option_map, option_and_then}
 use Rattle.std.specs.Map.{lookup}
 use Rattle.std.specs.Str.{bytes_eq}
 use Rattle.std.specs.Str.Parse.{AllDigits, digits_value, without_leading_plus}
@@ -9,7 +9,7 @@ use Rattle.clap.specs.declared.error.kind.ErrorKind.{ErrorKind}
 use Rattle.clap.specs.declared.error.kind.ErrorKind.TheVariants.{OutOfMemory}
 use Rattle.sfm_words.specs.Line.{sfm_line}
 use Rattle.sfm_words.specs.Subcommand.{Maker, subcommands}
-pub use Rattle.sfm_words.specs.Subcommand.{Command, solve, check, demo, weigh, weighed, ask, level, edit, meet, met, one, two, three, number}
+pub use Rattle.sfm_words.specs.Subcommand.{Command, solve, check, demo, weigh, weighed, ask, level, edit, meet, met, files, number}
 use Rattle.sfm_words.specs.declared.command.Command.{Command as Read}
 use Rattle.sfm_words.specs.declared.command.Command.TheVariants.{Solve as ReadSolve, Check as ReadCheck, Demo as ReadDemo, Weigh as ReadWeigh, Weighed as ReadWeighed, Ask as ReadAsk, Level as ReadLevel, Edit as ReadEdit, Meet as ReadMeet, Met as ReadMet}
 use Rattle.sfm_words.specs.declared.command.Refusal.{Refusal}
@@ -36,14 +36,15 @@ parsed_number text =
     let digits = without_leading_plus text in
     if is_numeral digits && nat_lt (digits_value 10 digits) (2 ^ 64) then Some (digits_value 10 digits) else None
 
+-- the texts of the arguments of these names, where each of them has one
+abbrev pub texts_given : List Text → List Row → Option (List Text)
+texts_given [] rows = Some []
+texts_given (name ∷ names) rows = option_and_then (λ text. option_map (λ texts. text ∷ texts) (texts_given names rows)) (first_of name rows)
+
 -- the command that the matches of a subcommand make
 abbrev pub made_of : Maker → List Row → Option Command
-made_of (one a make) rows = option_map make (first_of a rows)
-made_of (two a b make) rows =
-    option_and_then (λ x. option_map (make x) (first_of b rows)) (first_of a rows)
-made_of (three a b c make) rows = option_and_then (λ x. option_and_then
-    (λ y. option_map (make x y) (first_of c rows)) (first_of b rows)) (first_of a rows)
-made_of (number a make) rows = option_map make (option_and_then parsed_number (one_of a rows))
+made_of (files names make) rows = option_map (λ texts. make (λ i. get_or texts i [])) (texts_given names rows)
+made_of (number name make) rows = option_map make (option_and_then parsed_number (one_of name rows))
 
 -- the command that a subcommand is, by its name and its matches
 abbrev pub command_by : Text × List Row → Option Command
@@ -73,13 +74,10 @@ IsFileName name = (0 < length name) × (slice_index name 0 ≢ 45)
 abbrev pub IsSeed : Text → ℕ → Type 0
 IsSeed text seed = (0 < length text) × (length text ≤ 9) × AllDigits 10 text × (digits_value 10 text ≡ seed)
 
--- words behind that of a subcommand that are names of files, or a seed, and the command that they make
+-- words behind that of a subcommand that are names of files, one for each argument, or a seed, and the command that they make
 abbrev pub IsPlainFor : Maker → List Text → Command → Type 0
-IsPlainFor (one a make) words command = (x : Text) × (words ≡ x ∷ []) × IsFileName x × (make x ≡ command)
-IsPlainFor (two a b make) words command = (x y : Text) × (words ≡ x ∷ y ∷ []) × IsFileName x × IsFileName y × (make x y ≡ command)
-IsPlainFor (three a b c make) words command = (x y z : Text) × (words ≡ x ∷ y ∷ z ∷ [])
-    × IsFileName x × IsFileName y × IsFileName z × (make x y z ≡ command)
-IsPlainFor (number a make) words command = (x : Text) × (seed : ℕ) × (words ≡ x ∷ []) × IsSeed x seed × (make seed ≡ command)
+IsPlainFor (files names make) words command = (length words ≡ length names) × All IsFileName words × (make (λ i. get_or words i []) ≡ command)
+IsPlainFor (number name make) words command = (x : Text) × (seed : ℕ) × (words ≡ x ∷ []) × IsSeed x seed × (make seed ≡ command)
 
 -- the words are that of a subcommand, and behind it what it takes
 abbrev pub IsForm : List Text → Command → Type 0

@@ -1,9 +1,9 @@
 -- The command line of the program, as what clap reads of it.
-use Rattle.std.specs.Prelude.{List, [], ◌∷◌, Some, codes, fold, true}
+use Rattle.std.specs.Prelude.{List, [], ◌∷◌, Some, codes, fold, map, true}
 use Rattle.clap.specs.declared.builder.value_parser.ValueParser.{ValueParser}
 use Rattle.clap.specs.declared.builder.value_parser.ValueParser.TheVariants.{NonEmptyString, Unsigned}
 use Rattle.clap.specs.Words.{App, Rule, Text, new_app, new_rule, with_subcommand}
-use Rattle.sfm_words.specs.Subcommand.{Maker, number, one, subcommands, three, two}
+use Rattle.sfm_words.specs.Subcommand.{Maker, files, number, subcommands}
 
 -- an argument of one word, which has to be there and to be of a form
 abbrev pub word_rule : ValueParser → Text → Rule
@@ -11,11 +11,8 @@ word_rule form id = record (new_rule id) { required = true; parser = Some form }
 
 -- the arguments of a subcommand: names, none of them empty, or a whole number from 0 to 999,999,999
 abbrev pub rules_of : Maker → List Rule
-rules_of (one a make) = word_rule NonEmptyString a ∷ []
-rules_of (two a b make) = word_rule NonEmptyString a ∷ word_rule NonEmptyString b ∷ []
-rules_of (three a b c make) = word_rule NonEmptyString a ∷ word_rule NonEmptyString b
-    ∷ word_rule NonEmptyString c ∷ []
-rules_of (number a make) = word_rule (Unsigned 0 999999999) a ∷ []
+rules_of (files names make) = map (word_rule NonEmptyString) names
+rules_of (number name make) = word_rule (Unsigned 0 999999999) name ∷ []
 
 -- a subcommand, with its arguments in order
 abbrev pub app_of : Text × Maker → App

@@ -18,25 +18,23 @@ pub data Command : Type 0 where
   meet : Text → Text → Command
   met : Text → Text → Text → Command
 
--- what follows the word of a subcommand, and the command that it makes: names of files, or a number, each in the argument
--- of this name
+-- what follows the word of a subcommand, and the command that it makes: names of files, in arguments of these names, by their
+-- places from 0; or a number, in the argument of this name
 pub data Maker : Type 0 where
-  one : Text → (Text → Command) → Maker
-  two : (a b : Text) → (Text → Text → Command) → Maker
-  three : (a b c : Text) → (Text → Text → Text → Command) → Maker
+  files : List Text → ((ℕ → Text) → Command) → Maker
   number : Text → (ℕ → Command) → Maker
 
 -- the subcommands, each by its word
 abbrev pub subcommands : List (Text × Maker)
 subcommands =
-    (codes "solve", one (codes "FILE") solve)
-    ∷ (codes "check", two (codes "FILE") (codes "ANSWER") check)
+    (codes "solve", files (codes "FILE" ∷ []) (λ given. solve (given 0)))
+    ∷ (codes "check", files (codes "FILE" ∷ codes "ANSWER" ∷ []) (λ given. check (given 0) (given 1)))
     ∷ (codes "demo", number (codes "SEED") demo)
-    ∷ (codes "weigh", two (codes "FILE") (codes "SIZES") weigh)
-    ∷ (codes "weighed", three (codes "FILE") (codes "SIZES") (codes "ANSWER") weighed)
-    ∷ (codes "ask", two (codes "FILE") (codes "PINS") ask)
-    ∷ (codes "level", one (codes "FILE") level)
-    ∷ (codes "edit", two (codes "FILE") (codes "EDITS") edit)
-    ∷ (codes "meet", two (codes "LEFT") (codes "RIGHT") meet)
-    ∷ (codes "met", three (codes "LEFT") (codes "RIGHT") (codes "ANSWER") met)
+    ∷ (codes "weigh", files (codes "FILE" ∷ codes "SIZES" ∷ []) (λ given. weigh (given 0) (given 1)))
+    ∷ (codes "weighed", files (codes "FILE" ∷ codes "SIZES" ∷ codes "ANSWER" ∷ []) (λ given. weighed (given 0) (given 1) (given 2)))
+    ∷ (codes "ask", files (codes "FILE" ∷ codes "PINS" ∷ []) (λ given. ask (given 0) (given 1)))
+    ∷ (codes "level", files (codes "FILE" ∷ []) (λ given. level (given 0)))
+    ∷ (codes "edit", files (codes "FILE" ∷ codes "EDITS" ∷ []) (λ given. edit (given 0) (given 1)))
+    ∷ (codes "meet", files (codes "LEFT" ∷ codes "RIGHT" ∷ []) (λ given. meet (given 0) (given 1)))
+    ∷ (codes "met", files (codes "LEFT" ∷ codes "RIGHT" ∷ codes "ANSWER" ∷ []) (λ given. met (given 0) (given 1) (given 2)))
     ∷ []

@@ -1,7 +1,7 @@
 // The command that the words ask for: the subcommand in clap's matches of them, with its arguments.
-ghost use Rattle.std.specs.Prelude.{◌≡◌, ◌≤◌, ℕ, List, [], true, codes, map, option_map, option_and_then, IfOk, IfErr, MatchResult};
-ghost use Rattle.clap.specs.Words.{HasMatchesOf, Text, fault_of, first_of, found_of, one_of, rows_of, subcommand_rows_of, takes};
-ghost use Rattle.sfm_words.specs.{Command.{Asks, IsForm, IsNotTaken, command_by, command_of, demo, made_of, parsed_number, three, two}, Command.{Command as Asked}, Line.{sfm_line}};
+ghost use Rattle.std.specs.Prelude.{◌≡◌, ◌≤◌, ℕ, List, [], ◌∷◌, true, codes, map, option_map, option_and_then, IfOk, IfErr, MatchResult};
+ghost use Rattle.clap.specs.Words.{HasMatchesOf, fault_of, first_of, found_of, one_of, rows_of, subcommand_rows_of, takes};
+ghost use Rattle.sfm_words.specs.{Command.{Asks, IsForm, IsNotTaken, command_by, command_of, demo, parsed_number, texts_given}, Command.{Command as Asked}, Line.{sfm_line}};
 
 use crate::command::{Command, Refusal};
 use crate::line::command_line;
@@ -25,9 +25,8 @@ fn number_of(found: &ArgMatches<'_>, id: &str) -> Option<u64>
 
 /// The words of two arguments.
 fn two_words_of<'a>(found: &ArgMatches<'a>, a: &str, b: &str) -> Option<(&'a str, &'a str)>
-    ensures { (make : Text → Text → Asked)
-        → option_map (λ words. make words.0.now words.1.now) result
-        ≡ made_of (two a.now b.now make) (rows_of (found_of found.now)) }
+    ensures { option_map (λ words. words.0.now ∷ words.1.now ∷ []) result
+        ≡ texts_given (a.now ∷ b.now ∷ []) (rows_of (found_of found.now)) }
 {
     let x = word_of(found, a)?;
     let y = word_of(found, b)?;
@@ -41,9 +40,8 @@ fn three_words_of<'a>(
     b: &str,
     c: &str,
 ) -> Option<(&'a str, &'a str, &'a str)>
-    ensures { (make : Text → Text → Text → Asked)
-        → option_map (λ words. make words.0.now words.1.now words.2.now) result
-        ≡ made_of (three a.now b.now c.now make) (rows_of (found_of found.now)) }
+    ensures { option_map (λ words. words.0.now ∷ words.1.now ∷ words.2.now ∷ []) result
+        ≡ texts_given (a.now ∷ b.now ∷ c.now ∷ []) (rows_of (found_of found.now)) }
 {
     let x = word_of(found, a)?;
     let y = word_of(found, b)?;
