@@ -1,5 +1,5 @@
 -- The graph where some rows are only claimed, term by term.
-use Rattle.std.proofs.Common.{◌≡◌, ◌≢◌, ◌⊎◌, inl, inr, ℕ, ◌<◌, List, [], length, map, get_or, set, ℤ, pos, ◌≤ℤ◌, sym, ap, subst, ◌∙◌, arith, get_or-set_same, get_or-set_other, length-set}
+use Rattle.std.proofs.Common.{◌≡◌, ◌≢◌, ◌⊎◌, inl, inr, ℕ, ◌<◌, List, [], Option, length, map, get_or, set, ℤ, pos, ◌≤ℤ◌, sym, ap, subst, ◌∙◌, arith, get_or-set_same, get_or-set_other, length-set}
 use Rattle.std.specs.List.{All}
 use Rattle.std.proofs.lemmas.Bool.{cases_eq}
 use Rattle.std.proofs.lemmas.Int.{ints}
@@ -19,7 +19,7 @@ use Rattle.sfm_reach.specs.Based.{IsBased}
 use Rattle.sfm_reach.specs.Bits.{bit_in, blank_bits, set_at}
 use Rattle.sfm_exchange.specs.Claimed.{AreClaims, IsClaim}
 use Rattle.sfm_exchange.specs.Graph.{IsClaimed, IsShaped, IsWhole}
-use Rattle.sfm_reach.specs.Reach.{AreNotes, IsRow, table_at}
+use Rattle.sfm_reach.specs.Reach.{AreNotes, IsRow, kept_fits, table_at}
 use Rattle.sfm_exchange.specs.Renewed.{AreChanges}
 use Rattle.sfm_reach.specs.Spots.{spot_at, spots_at}
 use Rattle.sfm_reach.specs.Turned.{AreTurned}
@@ -128,8 +128,8 @@ module _ {X N : Type 0} {places : X → List ℕ} {value : X → SetFunction} {s
     claims_at = rw means at (h.claims i l)
 
     -- with another note of it that fits, all notes fit
-    pub noted_still : (note : N) → fits term note q (base_at graph.bases i) → AreNotes fits q terms (set graph.notes.items i note) graph.bases
-    noted_still note fit = subst (AreNotes fits q terms (set graph.notes.items i note)) (set-get_or graph.bases i []) (notes_set fits q terms graph.notes.items graph.bases i term note (base_at graph.bases i) h.note_count base_count l h.noted is fit)
+    pub noted_still : (note : Option N) → kept_fits fits term note q (base_at graph.bases i) → AreNotes (kept_fits fits) q terms (set graph.notes.items i note) graph.bases
+    noted_still note fit = subst (AreNotes (kept_fits fits) q terms (set graph.notes.items i note)) (set-get_or graph.bases i []) (notes_set (kept_fits fits) q terms graph.notes.items graph.bases i term note (base_at graph.bases i) h.note_count base_count l h.noted is fit)
 
     -- its places are of the ground
     pub place_in : (u : ℕ) → u < length (places term) → get_or (places term) u 0 < n
@@ -157,7 +157,7 @@ module _ {X N : Type 0} {places : X → List ℕ} {value : X → SetFunction} {s
         (λ j ne. get_or-set_other graph.rows.items i j rows [] ne) (rw (places_are, here) changed) renewed (rw (places_are, here) widened)
 
     -- with another row of the term, and other rows of reach
-    pub claimed_after : (x : List ℤ) (note : N) (rows : List Bits) (claimed : Bits) (graph' : Graph N) → IsBased places value size term q x → fits term note q x → length rows ≡ length (places term)
+    pub claimed_after : (x : List ℤ) (note : Option N) (rows : List Bits) (claimed : Bits) (graph' : Graph N) → IsBased places value size term q x → kept_fits fits term note q x → length rows ≡ length (places term)
         → AreClaims (places term) (times q (value term)) x claimed rows → AreUnions (set graph.rows.items i rows) graph.spots.items graph'.unions.items → AreTurned graph'.unions.items graph'.back.items
         → graph'.bases ≡ set graph.bases i x → graph'.spots.items ≡ graph.spots.items → graph'.notes.items ≡ set graph.notes.items i note → graph'.rows.items ≡ set graph.rows.items i rows → graph'.claimed.items ≡ set graph.claimed.items i claimed
         → IsClaimed places value size fits terms n q graph'
@@ -167,7 +167,7 @@ module _ {X N : Type 0} {places : X → List ℕ} {value : X → SetFunction} {s
       are_bases = rw bases_are (bases_set q (meanings places value terms) graph.bases i x h.are_bases li (at.entries ∙ ap length (sym places_are)) (rw means at.base));
       note_count = ap length notes_are ∙ (length-set graph.notes.items i note ∙ h.note_count);
       claim_count = ap length claimed_are ∙ (length-set graph.claimed.items i claimed ∙ h.claim_count);
-      noted = rw (notes_are, bases_are) (notes_set fits q terms graph.notes.items graph.bases i term note x h.note_count base_count l h.noted is noted);
+      noted = rw (notes_are, bases_are) (notes_set (kept_fits fits) q terms graph.notes.items graph.bases i term note x h.note_count base_count l h.noted is noted);
       sized_rows = rw rows_are (sized_set (map places terms) graph.rows.items i rows h.sized_rows (long ∙ sym rows_long));
       claims = λ j lj. rw (bases_are, rows_are, claimed_are) (claims j lj (cases_eq j i));
       are_spots = rw spots_are h.are_spots;
@@ -188,7 +188,7 @@ module _ {X N : Type 0} {places : X → List ℕ} {value : X → SetFunction} {s
       claims j lj (inr ne) = rw (get_or-set_other graph.bases i j x [] ne, get_or-set_other graph.claimed.items i j claimed blank_bits ne, get_or-set_other graph.rows.items i j rows [] ne) (h.claims j lj)
 
     -- with one of its rows asked
-    pub asked_after : (note : N) (u : ℕ) (row claimed changed : Bits) (graph' : Graph N) → u < length (places term) → All IsEntry (base_at graph.bases i) → ((x : X) → pos 0 ≤ℤ size x) → fits term note q (base_at graph.bases i)
+    pub asked_after : (note : Option N) (u : ℕ) (row claimed changed : Bits) (graph' : Graph N) → u < length (places term) → All IsEntry (base_at graph.bases i) → ((x : X) → pos 0 ≤ℤ size x) → kept_fits fits term note q (base_at graph.bases i)
         → IsRow (places term) (times q (value term)) (base_at graph.bases i) u row → ((e : ℕ) → e ≢ get_or (places term) u 0 → bit_in claimed e ≡ bit_in (set_at graph.claimed.items i) e) → bit_in changed (get_or (places term) u 0) ≡ 1
         → AreRenewed (set graph.rows.items i (set (table_at graph.rows.items i) u row)) graph.spots.items changed graph.unions.items graph'.unions.items → AreTurned graph'.unions.items graph'.back.items
         → graph'.bases ≡ graph.bases → graph'.spots.items ≡ graph.spots.items → graph'.notes.items ≡ set graph.notes.items i note → graph'.rows.items ≡ set graph.rows.items i (set (table_at graph.rows.items i) u row)

@@ -9,18 +9,18 @@ use Rattle.sfm_exchange.specs.declared.graph.Graph.{Graph}
 use Rattle.sfm_reach.specs.Bits.{set_at}
 use Rattle.sfm_exchange.specs.Claimed.{AreClaims}
 use Rattle.sfm_reach.specs.Spots.{AreSpots}
-use Rattle.sfm_reach.specs.Reach.{AreNotes, AreSized, IsTable, table_at}
+use Rattle.sfm_reach.specs.Reach.{AreNotes, AreSized, IsTable, kept_fits, table_at}
 use Rattle.sfm_reach.specs.Turned.{AreTurned}
 use Rattle.sfm_reach.specs.Unions.{AreUnions}
 
--- the graph is one of q times the terms over n places: its rows are bases, the note of each fits it, there is a row for each
+-- the graph is one of q times the terms over n places: its rows are bases, the note of each that has one fits it, there is a row for each
 -- place of each term, which tells the steps by the term, and a set of its claimed places for each term; the spots of each place are those of the terms, the adjacency of
 -- each place is the union of the rows of its spots, and the same is told backwards
 pub record IsGraph {X N : Type 0} (places : X → List ℕ) (value : X → SetFunction) (fits : X → N → ℤ → List ℤ → Type 0) (terms : List X) (n : ℕ) (q : ℤ) (graph : Graph N) : Type 0 where
   pub are_bases : AreBases q (meanings places value terms) graph.bases
   pub note_count : length graph.notes.items ≡ length terms
   pub claim_count : length graph.claimed.items ≡ length terms
-  pub noted : AreNotes fits q terms graph.notes.items graph.bases
+  pub noted : AreNotes (kept_fits fits) q terms graph.notes.items graph.bases
   pub sized_rows : AreSized (map places terms) graph.rows.items
   pub tables : (i : ℕ) → i < length terms → IsTable (meanings places value terms) q graph.bases i (table_at graph.rows.items i)
   pub are_spots : AreSpots (meanings places value terms) n graph.spots.items
@@ -40,7 +40,7 @@ pub record IsClaimed {X N : Type 0} (places : X → List ℕ) (value : X → Set
   pub are_bases : AreBases q (meanings places value terms) graph.bases
   pub note_count : length graph.notes.items ≡ length terms
   pub claim_count : length graph.claimed.items ≡ length terms
-  pub noted : AreNotes fits q terms graph.notes.items graph.bases
+  pub noted : AreNotes (kept_fits fits) q terms graph.notes.items graph.bases
   pub sized_rows : AreSized (map places terms) graph.rows.items
   pub claims : (i : ℕ) → i < length terms
       → AreClaims (term_at (meanings places value terms) i).places (times q (term_at (meanings places value terms) i).value) (base_at graph.bases i) (set_at graph.claimed.items i) (table_at graph.rows.items i)

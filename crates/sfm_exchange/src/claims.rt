@@ -11,7 +11,7 @@ use crate::graph::Graph;
 use crate::path::Hop;
 use sfm_base::Memory;
 use sfm_law::Term;
-use sfm_reach::{Based, Bits, only, renew, row_by, take_in};
+use sfm_reach::{Based, Bits, only, renew, row_kept, take_in};
 use std::alloc::Global;
 
 // Asks for the row of the place u of a term where it is only claimed.
@@ -49,7 +49,7 @@ fn ask_at<T: Term>(
     let at = Based { term, q, x };
     let note = &mut graph.notes[i];
     let rows = &mut graph.rows[i];
-    let row = row_by(alloc, &at, note, u, rows)?;
+    let row = row_kept(alloc, &at, note, u, rows)?;
     rows.set(u, row);
     let changed = only(place);
     renew(

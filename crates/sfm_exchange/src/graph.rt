@@ -1,5 +1,5 @@
 // The exchange graph as one value: bases of q times some terms, and all that is read off them (Fujishige, Submodular
-// Functions and Optimization, section 4: auxiliary networks). Each term has a note beside its base, and for each of its
+// Functions and Optimization, section 4: auxiliary networks). Each term may have a note beside its base, and has for each of its
 // places a row of the ground places to which that has room. The incidence of a place of the ground is its list of spots, its
 // adjacency the union of the rows of these, and the same is kept turned round, for searches backwards. That all of this is
 // so is one fact, `IsGraph`, which each call over a graph asks for and gives back; along walks some rows may be claimed, and
@@ -11,7 +11,7 @@ ghost use Rattle.sfm_exchange.specs.Graph.{IsGraph, IsShaped};
 use sfm_base::{Memory, Rows};
 use sfm_law::Term;
 use sfm_reach::{
-    BitRows, Bits, Spots, ask_all, blank_rows, no_bits, notes_of, spots_of, turned_of, unions_of,
+    BitRows, Bits, Spots, ask_all, blank_rows, no_bits, no_notes, spots_of, turned_of, unions_of,
 };
 use std::alloc::Global;
 
@@ -22,8 +22,8 @@ pub struct Graph<N> {
     pub bases: Rows,
     /// Incidence: for each place of the ground its terms.
     pub spots: Vec<Spots>,
-    /// What the kind of each term keeps beside its base.
-    pub notes: Vec<N>,
+    /// What the kind of each term keeps beside its base, once that is wanted.
+    pub notes: Vec<Option<N>>,
     /// For each place of each term the ground places to which it has room.
     pub rows: Vec<BitRows>,
     /// For each term the ground places whose rows in it are only claimed: they may have too much.
@@ -147,7 +147,7 @@ pub fn restart<T: Term>(
     ensures bases { OnOk result (graph.new.bases ≡ bases) }
 {
     graph.bases = bases;
-    graph.notes = notes_of(alloc, terms, q, &graph.bases)?;
+    graph.notes = no_notes(alloc, terms)?;
     ask_all(
         alloc,
         terms,

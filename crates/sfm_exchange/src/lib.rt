@@ -6,6 +6,7 @@
 
 mod claims;
 mod graph;
+mod kept;
 mod levels;
 mod moving;
 mod multiples;

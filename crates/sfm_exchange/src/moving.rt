@@ -7,8 +7,8 @@ ghost use Rattle.sfm_law.specs.Room.{AtMostRoom};
 ghost use Rattle.sfm_exchange.specs.{Graph.{IsClaimed}, Hops.{CanExchange, IsMovable, Moves, AreNamed, AreInOrder, hop_at, steps_of}};
 
 use crate::graph::Graph;
+use crate::kept::{move_kept, renew_kept, room_kept};
 use crate::path::{Hop, Path};
-use crate::renewing::renew_rows;
 use sfm_base::Memory;
 use sfm_law::{Room, Term, exchange};
 use sfm_reach::{Based, renew, widen};
@@ -44,7 +44,12 @@ pub fn amount_of<T: Term>(
     for hop in hops {
         let i = hop.term;
         let note = &mut graph.notes[i];
-        let room = terms[i].room_by(alloc, q, graph.bases.row(i), note, hop.u, hop.v)?;
+        let at = Based {
+            term: &terms[i],
+            q,
+            x: graph.bases.row(i),
+        };
+        let room = room_kept(alloc, &at, note, hop.u, hop.v)?;
         a = within(a, room);
     }
     Ok(a)
@@ -86,12 +91,12 @@ fn exchange_at<T: Term>(
     let term = &terms[i];
     let note = &mut graph.notes[i];
     let x = graph.bases.row_mut(i);
-    term.moved(alloc, q, x, note, hop.u, hop.v, a)?;
+    move_kept(alloc, &Based { term, q, x }, note, hop, a)?;
     exchange(term, q, x, hop.u, hop.v, a);
     let at = Based { term, q, x };
     let rows = &mut graph.rows[i];
     let claimed = &mut graph.claimed[i];
-    let changes = renew_rows(alloc, &at, note, hop, rows, claimed)?;
+    let changes = renew_kept(alloc, &at, note, hop, rows, claimed)?;
     renew(
         &graph.spots,
         &graph.rows,

@@ -4,12 +4,12 @@
 ghost use Rattle.std.specs.{Prelude.{◌≡◌, ◌<◌, ◌^◌, ℕ, ℤ, List, true, length, map, pos, ◌*ℤ◌, OnOk, IfOk}, List.{All}};
 ghost use Rattle.sfm_spec.specs.{Bounds.{AreBounded, IsEntry, IsFactor}, Families.{meanings, AreBases}, Walks.{base_at}};
 ghost use Rattle.sfm_exchange.specs.{Graph.{IsClaimed, IsGraph, IsShaped}, Scaled.{row_times}};
-ghost use Rattle.sfm_reach.specs.{Based.{AreBased}, Reach.{AreNotes, AreSized}};
+ghost use Rattle.sfm_reach.specs.{Reach.{AreNotes, AreSized, kept_fits}};
 
 use crate::graph::{Graph, blank_graph, copy_rows, restart};
 use sfm_base::{Memory, Rows};
 use sfm_law::{Term, product};
-use sfm_reach::{BitRows, notes_of};
+use sfm_reach::{BitRows, no_notes};
 use std::alloc::Global;
 
 // Whether b is q times a, where a is not too large to tell.
@@ -65,29 +65,27 @@ fn copy_tables(from: &[BitRows], to: &mut Vec<BitRows>)
     }
 }
 
-// Takes over from another graph of the terms its rows, and what is read off them; the terms are asked for what they keep beside the
-// bases that stand.
+// Takes over from another graph of the terms its rows, and what is read off them. No term is asked for what it keeps beside the
+// bases that stand before that is wanted.
 fn take_rows<T: Term>(
     alloc: Global,
     graph: &mut Graph<T::Note>,
     terms: &[T],
-    q: i128,
     other: &Graph<T::Note>,
 ) -> Result<(), Memory>
-    requires based { AreBased T.places T.value_of T.size_of terms.now q graph.old.bases }
     requires shaped { (n : ℕ) × IsShaped T.places T.value_of terms.now n graph.old
         × IsShaped T.places T.value_of terms.now n other.now }
     ensures bases { OnOk result (graph.new.bases ≡ graph.old.bases) }
     ensures spots { OnOk result (graph.new.spots.items ≡ graph.old.spots.items) }
     ensures count { OnOk result (length graph.new.notes.items ≡ length terms.now) }
-    ensures noted { OnOk result (AreNotes T.fits q terms.now graph.new.notes.items
-        graph.old.bases) }
+    ensures noted { OnOk result ((q : ℤ) → AreNotes (kept_fits T.fits) q terms.now
+        graph.new.notes.items graph.old.bases) }
     ensures rows { OnOk result (graph.new.rows.items ≡ other.now.rows.items) }
     ensures claimed { OnOk result (graph.new.claimed.items ≡ other.now.claimed.items) }
     ensures unions { OnOk result (graph.new.unions.items ≡ other.now.unions.items) }
     ensures back { OnOk result (graph.new.back.items ≡ other.now.back.items) }
 {
-    graph.notes = notes_of(alloc, terms, q, &graph.bases)?;
+    graph.notes = no_notes(alloc, terms)?;
     copy_tables(&other.rows, &mut graph.rows);
     graph.claimed.copy_from_slice(&other.claimed);
     graph.unions.copy_from_slice(&other.unions);
@@ -129,7 +127,7 @@ pub fn restart_by<T: Term>(
         return Ok(());
     }
     graph.bases = bases;
-    take_rows(alloc, graph, terms, q, other)?;
+    take_rows(alloc, graph, terms, other)?;
     Ok(())
 }
 
@@ -180,6 +178,6 @@ pub fn copy_graph<T: Term>(
 {
     let mut copied = blank_graph(alloc, terms, n)?;
     copied.bases = copy_rows(alloc, &graph.bases)?;
-    take_rows(alloc, &mut copied, terms, q, graph)?;
+    take_rows(alloc, &mut copied, terms, graph)?;
     Ok(copied)
 }

@@ -1,31 +1,14 @@
 -- Notes, rows and sets, one for each term.
-use Rattle.std.proofs.Common.{◌≡◌, ⊎_elim, ℕ, zero, suc, ◌+◌, ◌<◌, List, [], ◌∷◌, ◌++◌, length, map, get_or, set, ℤ, refl, sym, ap, ◌∙◌, arith, get_or-set_same, get_or-set_other, length-set}
+use Rattle.std.proofs.Common.{◌≡◌, ⊎_elim, ℕ, zero, suc, ◌+◌, ◌<◌, List, [], ◌∷◌, ◌++◌, length, map, get_or, set, replicate, None, ℤ, refl, sym, ap, ◌∙◌, arith, get_or-set_same, get_or-set_other, length-set}
 use Rattle.std.proofs.lemmas.Bool.{cases_eq, cases_lt}
-use Rattle.std.proofs.lemmas.List.{get_or_default, length-append, length-map, get_or-map}
+use Rattle.std.proofs.lemmas.List.{get_or_default, get_or-replicate, length-append, length-map, get_or-map}
 use Rattle.std.proofs.Math.ListN.{get_or-append}
 use Rattle.std.proofs.Math.Seq.{get_or-append_seam}
 use Rattle.sfm_spec.specs.Terms.{SetFunction}
 use Rattle.sfm_spec.specs.Families.{Meaning, meanings}
 use Rattle.sfm_spec.specs.Walks.{base_at, term_at}
 use Rattle.sfm_law.proofs.Lists.{length-meanings, meanings-at}
-use Rattle.sfm_reach.specs.Reach.{AreNotes, AreSized}
-
--- the notes of the first k terms fit
-abbrev pub AreNotesTo : {X N : Type 0} → (X → N → ℤ → List ℤ → Type 0) → ℤ → List X → ℕ → List N → List (List ℤ) → Type 0
-AreNotesTo fits q terms k notes rows = (i : ℕ) → i < k → (term : _) → term ≡ get_or terms i term → (note : _) → note ≡ get_or notes i note → fits term note q (base_at rows i)
-
--- one note more
-pub notes_push : {X N : Type 0} (fits : X → N → ℤ → List ℤ → Type 0) (q : ℤ) (terms : List X) (k : ℕ) (notes : List N) (rows : List (List ℤ)) (term : X) (note : N) → k < length terms → length notes ≡ k
-    → AreNotesTo fits q terms k notes rows → term ≡ get_or terms k term → fits term note q (base_at rows k) → AreNotesTo fits q terms (k + 1) (notes ++ note ∷ []) rows
-notes_push fits q terms k notes rows term note lk count h is fit i l x at w note_at = ⊎_elim
-    (λ less. h i less x at w (note_at ∙ get_or-append notes (note ∷ []) w i (omega (arith, less, count))))
-    (λ ge.
-    let same : i ≡ k = omega (arith, ge, l) in
-    let last : i ≡ length notes = omega (arith, same, count) in
-    let w_is : w ≡ note = note_at ∙ (ap (λ z. get_or (notes ++ note ∷ []) z w) last ∙ get_or-append_seam notes note [] w) in
-    let x_is : x ≡ term = at ∙ (ap (λ z. get_or terms z x) same ∙ (get_or_default terms k x term lk ∙ sym is)) in
-    rw (x_is, w_is, same) fit)
-    (cases_lt i k)
+use Rattle.sfm_reach.specs.Reach.{AreNotes, AreSized, kept_fits}
 
 -- one note put in place of another, where the row of its term alone has changed
 pub notes_set : {X N : Type 0} (fits : X → N → ℤ → List ℤ → Type 0) (q : ℤ) (terms : List X) (notes : List N) (rows : List (List ℤ)) (j : ℕ) (term : X) (note : N) (row : List ℤ) → length notes ≡ length terms → length rows ≡ length terms → j < length terms
@@ -49,6 +32,10 @@ notes_put fits q terms notes rows j term note count lj h is fit i l x at w note_
     rw (x_is, w_is, same) fit)
     (λ ne. h i l x at w (note_at ∙ get_or-set_other notes j i note w ne))
     (cases_eq i j)
+
+-- where none is kept, all that are kept fit
+pub notes_none : {X N : Type 0} (fits : X → N → ℤ → List ℤ → Type 0) (q : ℤ) (terms : List X) (n : ℕ) (rows : List (List ℤ)) → n ≡ length terms → AreNotes (kept_fits fits) q terms (replicate n None) rows
+notes_none fits q terms n rows count i l x at w note_at = rw (note_at ∙ get_or-replicate n i None w (omega (arith, l, count))) tt
 
 -- a list for each of the first k terms, as long as the term has places
 pub record AreSizedTo {X A : Type 0} (places : X → List ℕ) (terms : List X) (k : ℕ) (lists : List (List A)) : Type 0 where

@@ -1,5 +1,5 @@
 -- The kept rows of what the places of terms reach.
-use Rattle.std.specs.Prelude.{◌≡◌, ◌≢◌, ◌↔◌, ℕ, ◌<◌, List, [], length, slice_index_or, ℤ}
+use Rattle.std.specs.Prelude.{◌≡◌, ◌≢◌, ◌↔◌, ℕ, ◌<◌, List, [], length, slice_index_or, ℤ, Option, IfSome}
 use Rattle.sfm_spec.specs.Terms.{SetFunction, HasRoom}
 use Rattle.sfm_spec.specs.Families.{Meaning}
 use Rattle.sfm_spec.specs.Walks.{term_at, base_at, IsStep}
@@ -35,3 +35,7 @@ pub record AreSized {A : Type 0} (places : List (List ℕ)) (lists : List (List 
 -- the note of each term fits its row
 abbrev pub AreNotes : {X N : Type 0} → (X → N → ℤ → List ℤ → Type 0) → ℤ → List X → List N → List (List ℤ) → Type 0
 AreNotes fits q terms notes rows = (i : ℕ) → i < length terms → (term : _) → term ≡ slice_index_or terms i term → (note : _) → note ≡ slice_index_or notes i note → fits term note q (base_at rows i)
+
+-- the note that is kept beside a row fits it, if there is one
+abbrev pub kept_fits : {X N : Type 0} → (X → N → ℤ → List ℤ → Type 0) → X → Option N → ℤ → List ℤ → Type 0
+kept_fits fits term kept q x = IfSome kept (λ note. fits term note q x)

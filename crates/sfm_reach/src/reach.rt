@@ -2,11 +2,11 @@
 // Only the terms whose base has changed are asked again.
 ghost use Rattle.std.specs.Prelude.{◌≡◌, ℕ, ◌<◌, List, length, map, IfOk, OnOk, slice_set};
 ghost use Rattle.sfm_spec.specs.{Sets.{IsPlaced}, Rows.{Depends}, Terms.{times}};
-ghost use Rattle.sfm_reach.specs.{Based.{AreBased, IsBased}, Bits.{HasPlaces, bit_in, set_at}, Image.{IsImage}, Reach.{IsReachTable, IsRow, AreRowsOf, AreNotes, AreSized}};
+ghost use Rattle.sfm_reach.specs.{Based.{IsBased}, Bits.{HasPlaces, bit_in, set_at}, Image.{IsImage}, Reach.{IsReachTable, IsRow, AreRowsOf, AreSized}};
 
 use crate::bits::{Bits, no_bits, of_words};
 use crate::image::{Image, are_in_order};
-use sfm_base::{Memory, Rows, Set};
+use sfm_base::{Memory, Set};
 use sfm_law::Term;
 use std::alloc::Global;
 use std::marker::Model;
@@ -248,24 +248,6 @@ pub fn ask<T: Term>(
         ask_row(alloc, at, note, u, &mut asked, rows)?;
     }
     Ok(())
-}
-
-/// The notes of all bases.
-pub fn notes_of<T: Term>(
-    alloc: Global,
-    terms: &[T],
-    q: i128,
-    bases: &Rows,
-) -> Result<Vec<T::Note>, Memory>
-    requires { AreBased T.places T.value_of T.size_of terms.now q bases.now }
-    ensures count { IfOk result (λ r. length r.items ≡ length terms.now) }
-    ensures fit { IfOk result (λ r. AreNotes T.fits q terms.now r.items bases.now) }
-{
-    let mut notes = Vec::new(alloc);
-    for (i, term) in terms.iter().enumerate() {
-        notes.push(term.note(alloc, q, bases.row(i))?)?;
-    }
-    Ok(notes)
 }
 
 /// Rows for each term, none of them asked.

@@ -9,7 +9,7 @@ use Rattle.sfm_spec.specs.Terms.{times}
 use Rattle.sfm_spec.specs.Walks.{base_at}
 use Rattle.sfm_reach.specs.Based.{IsBased}
 use Rattle.sfm_reach.specs.Bits.{blank_bits, set_at}
-use Rattle.sfm_reach.specs.Reach.{IsRow, table_at}
+use Rattle.sfm_reach.specs.Reach.{IsRow, kept_fits, table_at}
 use Rattle.sfm_exchange.proofs.Asked.{claims_fewer, claims_kept}
 use Rattle.sfm_reach.proofs.Basing.{size_low}
 use Rattle.sfm_exchange.proofs.ClaimedGraphs.{asked_after, base_count, based, claimed_shown, place_in, places_are, row_long, rows_after, rows_count, rows_shown}
@@ -66,8 +66,8 @@ remove-requires g c = rw c.elements-places.ensures (below g (goal.at.remove-requ
 pub only-changed-requires : goal.only-changed-requires
 only-changed-requires g c = rw c.elements-places.ensures (below g (goal.at.only-changed-requires g c).After-index-terms-i)
 
-pub row_by-requires-clause-based : goal.row_by-requires-clause-based
-row_by-requires-clause-based g c =
+pub row_kept-requires-clause-based : goal.row_kept-requires-clause-based
+row_kept-requires-clause-based g c =
     let t = g.T.Term in
     let m = g.met.T.Term in
     let fq : FitsSigned w128 c.args.q = c.ranges.q in
@@ -78,23 +78,23 @@ row_by-requires-clause-based g c =
     let b = based r.ready.claimed i r.term term c.index-terms-i.is (size_low t.places t.value_of t.size_of m.submodular m.bounded) (All-get_or (λ x. All IsEntry x) c.args.graph.now.bases i [] (rw (base_count r.ready.claimed) r.term) r.ready.small) in
     simp to_z-of_z (subst B (sym c.row-x.ensures) b)
 
-pub row_by-requires-clause-noted : goal.row_by-requires-clause-noted
-row_by-requires-clause-noted g c =
+pub row_kept-requires-clause-noted : goal.row_kept-requires-clause-noted
+row_kept-requires-clause-noted g c =
     let t = g.T.Term in
     let fq : FitsSigned w128 c.args.q = c.ranges.q in
     let r = c.requires in
-    let F : List ℤ → Type 0 = λ x. t.fits c.index-terms-i.result c.index_mut-note.result.now c.args.q x in
+    let F : List ℤ → Type 0 = λ x. kept_fits t.fits c.index-terms-i.result c.index_mut-note.result.now c.args.q x in
     simp to_z-of_z (subst F (sym c.row-x.ensures) (r.ready.claimed.noted c.args.i r.term c.index-terms-i.result c.index-terms-i.is c.index_mut-note.result.now c.index_mut-note.ensures.value))
 
-pub row_by-requires-clause-from : goal.row_by-requires-clause-from
-row_by-requires-clause-from g c =
+pub row_kept-requires-clause-from : goal.row_kept-requires-clause-from
+row_kept-requires-clause-from g c =
     let entries = row_long c.requires.ready.claimed c.args.i c.requires.term c.index-terms-i.result c.index-terms-i.is in
-    rw (c.row-x.ensures, entries) (inside g (goal.at.row_by-requires-clause-from g c).After-index-terms-i)
+    rw (c.row-x.ensures, entries) (inside g (goal.at.row_kept-requires-clause-from g c).After-index-terms-i)
 
-pub row_by-requires-clause-rows : goal.row_by-requires-clause-rows
-row_by-requires-clause-rows g c =
+pub row_kept-requires-clause-rows : goal.row_kept-requires-clause-rows
+row_kept-requires-clause-rows g c =
     let r = c.requires in
-    (shown g (goal.at.row_by-requires-clause-rows g c).After-index_mut-rows).1 ∙ (sym (row_long r.ready.claimed c.args.i r.term c.index-terms-i.result c.index-terms-i.is) ∙ ap length (sym c.row-x.ensures))
+    (shown g (goal.at.row_kept-requires-clause-rows g c).After-index_mut-rows).1 ∙ (sym (row_long r.ready.claimed c.args.i r.term c.index-terms-i.result c.index-terms-i.is) ∙ ap length (sym c.row-x.ensures))
 
 pub set-requires : goal.set-requires
 set-requires g c =
@@ -128,13 +128,13 @@ returns-clause-still g c =
     let term = c.index-terms-i.result in
     let at = goal.at.returns-clause-still g c in
     let put : c.set.new.self ≡ set (table_at graph.rows.items i) c.args.u c.in_ok-row.row = rw (c.in_ok-row.ensures.same, (shown g at.After-index_mut-rows).0) at c.set.ensures in
-    let noted : t.fits term c.row_by.new.note c.args.q (base_at graph.bases i) = simp to_z-of_z at (rw c.row-x.ensures at c.in_ok-row.ensures.noted) in
+    let noted : kept_fits t.fits term c.row_kept.new.kept c.args.q (base_at graph.bases i) = simp to_z-of_z at (rw c.row-x.ensures at c.in_ok-row.ensures.noted) in
     let told : IsRow (t.places term) (times c.args.q (t.value_of term)) (base_at graph.bases i) c.args.u c.in_ok-row.row = simp to_z-of_z at (rw c.row-x.ensures at c.in_ok-row.ensures.row) in
     let small = All-get_or (λ x. All IsEntry x) graph.bases i [] (rw (base_count r.ready.claimed) r.term) r.ready.small in
     let only = rw c.elements-places.ensures at c.only-changed.ensures in
     let rest = rw (c.elements-places.ensures, claimed_are g at.After-index_mut-claimed) at c.remove.ensures.others in
     record {
-      claimed = asked_after r.ready.claimed i r.term term c.index-terms-i.is c.row_by.new.note c.args.u c.in_ok-row.row c.remove.new.self c.only-changed.result _ (inside g at.After-index-terms-i) small (size_low t.places t.value_of t.size_of m.submodular m.bounded) noted told rest
+      claimed = asked_after r.ready.claimed i r.term term c.index-terms-i.is c.row_kept.new.kept c.args.u c.in_ok-row.row c.remove.new.self c.only-changed.result _ (inside g at.After-index-terms-i) small (size_low t.places t.value_of t.size_of m.submodular m.bounded) noted told rest
           only.has (rw (c.deref.ensures.value, c.deref-2.ensures.value, put) at c.renew.ensures.renewed) c.renew.ensures.turned refl refl refl (ap (λ z. set graph.rows.items i z) put) refl;
       bases = refl;
     }

@@ -8,12 +8,6 @@ use Rattle.sfm_reach.proofs.Uniting.{have_rows}
 use Rattle.sfm_reach.proofs.Basing.{are_based}
 use Rattle.sfm_exchange.proofs.graph.restart.Goals as goal
 
-pub notes_of-requires : goal.notes_of-requires
-notes_of-requires g c =
-    let m = g.met.T.Term in
-    let fq : FitsSigned w128 c.args.q = c.ranges.q in
-    simp to_z-of_z (are_based m.submodular m.bounded c.requires.bounded c.requires.factor c.requires.bases c.requires.small)
-
 pub ask_all-requires-clause-based : goal.ask_all-requires-clause-based
 ask_all-requires-clause-based g c =
     let m = g.met.T.Term in
@@ -56,4 +50,4 @@ pub ask_all-requires-clause-count : goal.ask_all-requires-clause-count
 ask_all-requires-clause-count g c = c.in_ok-graph.ensures.count
 
 pub ask_all-requires-clause-noted : goal.ask_all-requires-clause-noted
-ask_all-requires-clause-noted g c = c.in_ok-graph.ensures.fit
+ask_all-requires-clause-noted g c = c.in_ok-graph.ensures.fit _ _

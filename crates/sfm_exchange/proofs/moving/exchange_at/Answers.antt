@@ -10,15 +10,16 @@ use Rattle.sfm_spec.specs.Walks.{base_at}
 use Rattle.sfm_spec.proofs.Sums.{length-exchanged}
 use Rattle.sfm_law.specs.Room.{IsWithinRoom}
 use Rattle.sfm_reach.specs.Based.{IsBased}
+use Rattle.sfm_reach.specs.Reach.{kept_fits}
 use Rattle.sfm_exchange.specs.Claimed.{AreClaims}
 use Rattle.sfm_reach.proofs.Basing.{based_after, size_low}
 use Rattle.sfm_exchange.proofs.ClaimedGraphs.{base_count, based, claimed_after, claimed_shown, claims_at, means, place_in, rows_after, rows_count, rows_shown, united_by}
 use Rattle.sfm_exchange.proofs.moving.exchange_at.Given as given
 use Rattle.sfm_exchange.proofs.moving.exchange_at.Goals as goal
-use Rattle.sfm_exchange.proofs.moving.exchange_at.Goals.{After-at-1, After-moved-arg-1}
+use Rattle.sfm_exchange.proofs.moving.exchange_at.Goals.{After-at-1, After-row_mut-x}
 
 -- the row of the term is a base of it within the bounds
-here : (g : given.Over) (c : After-moved-arg-1 g) → let t = g.T.Term in IsBased t.places t.value_of t.size_of c.index-terms-i.result c.args.q (base_at c.args.graph.now.bases c.args.hop.term)
+here : (g : given.Over) (c : After-row_mut-x g) → let t = g.T.Term in IsBased t.places t.value_of t.size_of c.index-terms-i.result c.args.q (base_at c.args.graph.now.bases c.args.hop.term)
 here g c =
     let t = g.T.Term in
     let m = g.met.T.Term in
@@ -26,13 +27,13 @@ here g c =
     based r.graph c.args.hop.term r.inside c.index-terms-i.result c.index-terms-i.is (size_low t.places t.value_of t.size_of m.submodular m.bounded) r.can.small
 
 -- as the calls are given it
-base : (g : given.Over) (c : After-moved-arg-1 g) → IsBase (times (to_z w128 (of_z w128 c.args.q)) (g.T.Term.value_of c.index-terms-i.result)) c.row_mut-x.result.now
+base : (g : given.Over) (c : After-row_mut-x g) → IsBase (times (to_z w128 (of_z w128 c.args.q)) (g.T.Term.value_of c.index-terms-i.result)) c.row_mut-x.result.now
 base g c =
     let fq : FitsSigned w128 c.args.q = c.ranges.q in
     rw c.row_mut-x.ensures.value (simp to_z-of_z (here g c).base)
 
 -- and the exchange is within its room
-room : (g : given.Over) (c : After-moved-arg-1 g) → IsWithinRoom (times (to_z w128 (of_z w128 c.args.q)) (g.T.Term.value_of c.index-terms-i.result)) c.row_mut-x.result.now c.args.hop.u c.args.hop.v (to_z w128 (of_z w128 c.args.a))
+room : (g : given.Over) (c : After-row_mut-x g) → IsWithinRoom (times (to_z w128 (of_z w128 c.args.q)) (g.T.Term.value_of c.index-terms-i.result)) c.row_mut-x.result.now c.args.hop.u c.args.hop.v (to_z w128 (of_z w128 c.args.a))
 room g c =
     let r = c.requires in
     let fq : FitsSigned w128 c.args.q = c.ranges.q in
@@ -63,92 +64,116 @@ pub row_mut-x-requires : goal.row_mut-x-requires
 row_mut-x-requires g c = rw (base_count c.requires.graph) c.requires.inside
 
 -- what both calls ask for
-factor : (g : given.Over) (c : After-moved-arg-1 g) → IsFactor (to_z w128 (of_z w128 c.args.q))
+factor : (g : given.Over) (c : After-row_mut-x g) → IsFactor (to_z w128 (of_z w128 c.args.q))
 factor g c = let fq : FitsSigned w128 c.args.q = c.ranges.q in simp to_z-of_z c.requires.graph.factor
 
-entries : (g : given.Over) (c : After-moved-arg-1 g) → length c.row_mut-x.result.now ≡ length (g.T.Term.places c.index-terms-i.result)
+entries : (g : given.Over) (c : After-row_mut-x g) → length c.row_mut-x.result.now ≡ length (g.T.Term.places c.index-terms-i.result)
 entries g c = rw c.row_mut-x.ensures.value (here g c).entries
 
-small : (g : given.Over) (c : After-moved-arg-1 g) → All IsEntry c.row_mut-x.result.now
+small : (g : given.Over) (c : After-row_mut-x g) → All IsEntry c.row_mut-x.result.now
 small g c = rw c.row_mut-x.ensures.value c.requires.can.small
 
-from : (g : given.Over) (c : After-moved-arg-1 g) → c.args.hop.u < length c.row_mut-x.result.now
+from : (g : given.Over) (c : After-row_mut-x g) → c.args.hop.u < length c.row_mut-x.result.now
 from g c = rw c.row_mut-x.ensures.value c.requires.can.raised
 
-onto : (g : given.Over) (c : After-moved-arg-1 g) → c.args.hop.v < length c.row_mut-x.result.now
+onto : (g : given.Over) (c : After-row_mut-x g) → c.args.hop.v < length c.row_mut-x.result.now
 onto g c = rw c.row_mut-x.ensures.value c.requires.can.lowered
 
-low : (g : given.Over) (c : After-moved-arg-1 g) → pos 0 ≤ℤ to_z w128 (of_z w128 c.args.a)
+low : (g : given.Over) (c : After-row_mut-x g) → pos 0 ≤ℤ to_z w128 (of_z w128 c.args.a)
 low g c =
     let fa : FitsSigned w128 c.args.a = c.ranges.a in
     let some = c.requires.low in
     let least : pos 0 ≤ℤ c.args.a = omega (arith, ints, some) in
     simp to_z-of_z least
 
-high : (g : given.Over) (c : After-moved-arg-1 g) → to_z w128 (of_z w128 c.args.a) ≤ℤ pos (10 ^ 30)
+high : (g : given.Over) (c : After-row_mut-x g) → to_z w128 (of_z w128 c.args.a) ≤ℤ pos (10 ^ 30)
 high g c = let fa : FitsSigned w128 c.args.a = c.ranges.a in simp to_z-of_z c.requires.high
 
-noted : (g : given.Over) (c : After-moved-arg-1 g) → g.T.Term.fits c.index-terms-i.result c.index_mut-note.result.now (to_z w128 (of_z w128 c.args.q)) c.row_mut-x.result.now
+noted : (g : given.Over) (c : After-row_mut-x g) → kept_fits g.T.Term.fits c.index-terms-i.result c.index_mut-note.result.now (to_z w128 (of_z w128 c.args.q)) c.row_mut-x.result.now
 noted g c =
     let fq : FitsSigned w128 c.args.q = c.ranges.q in
     let r = c.requires in
     let term = c.index-terms-i.result in
-    let F : List ℤ → Type 0 = λ x. g.T.Term.fits term c.index_mut-note.result.now c.args.q x in
+    let F : List ℤ → Type 0 = λ x. kept_fits g.T.Term.fits term c.index_mut-note.result.now c.args.q x in
     let fit : F c.row_mut-x.result.now = subst F (sym c.row_mut-x.ensures.value) (r.graph.noted c.args.hop.term r.inside term c.index-terms-i.is c.index_mut-note.result.now c.index_mut-note.ensures.value) in
     simp to_z-of_z fit
 
-pub moved-requires : goal.moved-requires
-moved-requires g c =
-    let at = (goal.at.moved-requires g c).After-moved-arg-1 in
-    record { factor = factor g at; entries = entries g at; bounded = (here g at).bounded; small = small g at; base = base g at; noted = noted g at; apart = c.requires.can.apart; from = from g at; onto = onto g at; low = low g at; high = high g at; room = room g at }
+pub move_kept-requires-clause-based : goal.move_kept-requires-clause-based
+move_kept-requires-clause-based g c =
+    let t = g.T.Term in
+    let fq : FitsSigned w128 c.args.q = c.ranges.q in
+    let at = (goal.at.move_kept-requires-clause-based g c).After-row_mut-x in
+    let B : List ℤ → Type 0 = λ x. IsBased t.places t.value_of t.size_of c.index-terms-i.result c.args.q x in
+    simp to_z-of_z (subst B (sym c.row_mut-x.ensures.value) (here g at))
+
+pub move_kept-requires-clause-noted : goal.move_kept-requires-clause-noted
+move_kept-requires-clause-noted g c = noted g (goal.at.move_kept-requires-clause-noted g c).After-row_mut-x
+
+pub move_kept-requires-clause-apart : goal.move_kept-requires-clause-apart
+move_kept-requires-clause-apart g c = c.requires.can.apart
+
+pub move_kept-requires-clause-from : goal.move_kept-requires-clause-from
+move_kept-requires-clause-from g c = from g (goal.at.move_kept-requires-clause-from g c).After-row_mut-x
+
+pub move_kept-requires-clause-onto : goal.move_kept-requires-clause-onto
+move_kept-requires-clause-onto g c = onto g (goal.at.move_kept-requires-clause-onto g c).After-row_mut-x
+
+pub move_kept-requires-clause-low : goal.move_kept-requires-clause-low
+move_kept-requires-clause-low g c = low g (goal.at.move_kept-requires-clause-low g c).After-row_mut-x
+
+pub move_kept-requires-clause-high : goal.move_kept-requires-clause-high
+move_kept-requires-clause-high g c = high g (goal.at.move_kept-requires-clause-high g c).After-row_mut-x
+
+pub move_kept-requires-clause-room : goal.move_kept-requires-clause-room
+move_kept-requires-clause-room g c = room g (goal.at.move_kept-requires-clause-room g c).After-row_mut-x
 
 pub exchange-requires : goal.exchange-requires
 exchange-requires g c =
-    let at = (goal.at.exchange-requires g c).After-moved-arg-1 in
+    let at = (goal.at.exchange-requires g c).After-row_mut-x in
     record { factor = factor g at; entries = entries g at; small = small g at; apart = c.requires.can.apart; from = from g at; onto = onto g at; base = base g at; low = low g at; high = high g at; room = room g at }
 
-pub renew_rows-requires-clause-based : goal.renew_rows-requires-clause-based
-renew_rows-requires-clause-based g c =
+pub renew_kept-requires-clause-based : goal.renew_kept-requires-clause-based
+renew_kept-requires-clause-based g c =
     let fq : FitsSigned w128 c.args.q = c.ranges.q in
-    let at = goal.at.renew_rows-requires-clause-based g c in
-    simp to_z-of_z (still g at.After-at-1 (here g at.After-moved-arg-1))
+    let at = goal.at.renew_kept-requires-clause-based g c in
+    simp to_z-of_z (still g at.After-at-1 (here g at.After-row_mut-x))
 
-pub renew_rows-requires-clause-noted : goal.renew_rows-requires-clause-noted
-renew_rows-requires-clause-noted g c = rw c.exchange.ensures.moved c.in_ok-moved.ensures
+pub renew_kept-requires-clause-noted : goal.renew_kept-requires-clause-noted
+renew_kept-requires-clause-noted g c = rw c.exchange.ensures.moved c.in_ok-move_kept.ensures
 
-pub renew_rows-requires-clause-apart : goal.renew_rows-requires-clause-apart
-renew_rows-requires-clause-apart g c = c.requires.can.apart
+pub renew_kept-requires-clause-apart : goal.renew_kept-requires-clause-apart
+renew_kept-requires-clause-apart g c = c.requires.can.apart
 
-pub renew_rows-requires-clause-raised : goal.renew_rows-requires-clause-raised
-renew_rows-requires-clause-raised g c = let at = goal.at.renew_rows-requires-clause-raised g c in rw (long g at.After-at-1) c.requires.can.raised
+pub renew_kept-requires-clause-raised : goal.renew_kept-requires-clause-raised
+renew_kept-requires-clause-raised g c = let at = goal.at.renew_kept-requires-clause-raised g c in rw (long g at.After-at-1) c.requires.can.raised
 
-pub renew_rows-requires-clause-lowered : goal.renew_rows-requires-clause-lowered
-renew_rows-requires-clause-lowered g c = let at = goal.at.renew_rows-requires-clause-lowered g c in rw (long g at.After-at-1) c.requires.can.lowered
+pub renew_kept-requires-clause-lowered : goal.renew_kept-requires-clause-lowered
+renew_kept-requires-clause-lowered g c = let at = goal.at.renew_kept-requires-clause-lowered g c in rw (long g at.After-at-1) c.requires.can.lowered
 
-pub renew_rows-requires-clause-rows : goal.renew_rows-requires-clause-rows
-renew_rows-requires-clause-rows g c =
+pub renew_kept-requires-clause-rows : goal.renew_kept-requires-clause-rows
+renew_kept-requires-clause-rows g c =
     let r = c.requires in
-    let at = goal.at.renew_rows-requires-clause-rows g c in
+    let at = goal.at.renew_kept-requires-clause-rows g c in
     let shown = rows_shown r.graph c.args.hop.term r.inside c.index-terms-i.result c.index-terms-i.is c.index_mut-rows.result.now c.index_mut-rows.ensures.value in
-    shown.1 ∙ sym (still g at.After-at-1 (here g at.After-moved-arg-1)).entries
+    shown.1 ∙ sym (still g at.After-at-1 (here g at.After-row_mut-x)).entries
 
-pub renew_rows-requires-clause-before : goal.renew_rows-requires-clause-before
-renew_rows-requires-clause-before g c =
+pub renew_kept-requires-clause-before : goal.renew_kept-requires-clause-before
+renew_kept-requires-clause-before g c =
     let fq : FitsSigned w128 c.args.q = c.ranges.q in
     let fa : FitsSigned w128 c.args.a = c.ranges.a in
     let r = c.requires in
     let i = c.args.hop.term in
-    let at = goal.at.renew_rows-requires-clause-before g c in
+    let at = goal.at.renew_kept-requires-clause-before g c in
     let shown = rows_shown r.graph c.args.hop.term r.inside c.index-terms-i.result c.index-terms-i.is c.index_mut-rows.result.now c.index_mut-rows.ensures.value in
     let claimed_are = claimed_shown r.graph i r.inside c.index-terms-i.result c.index-terms-i.is c.index_mut-claimed.result.now c.index_mut-claimed.ensures.value in
     let told : AreClaims (g.T.Term.places c.index-terms-i.result) (times c.args.q (g.T.Term.value_of c.index-terms-i.result)) (base_at c.args.graph.now.bases i) c.index_mut-claimed.result.now c.index_mut-rows.result.now = rw (shown.0, claimed_are) (claims_at r.graph i r.inside c.index-terms-i.result c.index-terms-i.is) in
-    simp to_z-of_z (base_at c.args.graph.now.bases i, record { base = (here g at.After-moved-arg-1).base; amount = c.args.a; some = r.low; is = came g at.After-at-1 }, told)
+    simp to_z-of_z (base_at c.args.graph.now.bases i, record { base = (here g at.After-row_mut-x).base; amount = c.args.a; some = r.low; is = came g at.After-at-1 }, told)
 
 pub renew-requires-clause-rows : goal.renew-requires-clause-rows
 renew-requires-clause-rows g c =
     let r = c.requires in
     let shown = rows_shown r.graph c.args.hop.term r.inside c.index-terms-i.result c.index-terms-i.is c.index_mut-rows.result.now c.index_mut-rows.ensures.value in
-    rw (c.deref.ensures.value, c.deref-2.ensures.value) (rows_after r.graph c.args.hop.term r.inside c.index-terms-i.result c.index-terms-i.is c.renew_rows.new.rows (c.in_ok-changes.ensures.rows ∙ shown.1))
+    rw (c.deref.ensures.value, c.deref-2.ensures.value) (rows_after r.graph c.args.hop.term r.inside c.index-terms-i.result c.index-terms-i.is c.renew_kept.new.rows (c.in_ok-changes.ensures.rows ∙ shown.1))
 
 pub renew-requires-clause-few : goal.renew-requires-clause-few
 renew-requires-clause-few g c = rw c.deref.ensures.value c.requires.graph.bounded.few
@@ -165,7 +190,7 @@ renew-requires-clause-placed g c = λ k one.
     rw (c.deref.ensures.value, ← is) (place_in c.requires.graph c.args.hop.term c.requires.inside c.index-terms-i.result c.index-terms-i.is u lu)
 
 pub widen-requires-clause-placed : goal.widen-requires-clause-placed
-widen-requires-clause-placed g c = rw c.elements.ensures (here g (goal.at.widen-requires-clause-placed g c).After-moved-arg-1).placed
+widen-requires-clause-placed g c = rw c.elements.ensures (here g (goal.at.widen-requires-clause-placed g c).After-row_mut-x).placed
 
 pub widen-requires-clause-inside : goal.widen-requires-clause-inside
 widen-requires-clause-inside g c = λ u lu.
@@ -182,7 +207,7 @@ pub widen-requires-clause-rows : goal.widen-requires-clause-rows
 widen-requires-clause-rows g c =
     let r = c.requires in
     let shown = rows_shown r.graph c.args.hop.term r.inside c.index-terms-i.result c.index-terms-i.is c.index_mut-rows.result.now c.index_mut-rows.ensures.value in
-    let table : c.index.result.now ≡ c.renew_rows.new.rows = c.index.ensures ∙ get_or-set_same c.args.graph.now.rows.items c.args.hop.term c.renew_rows.new.rows c.index.result.now (rw (rows_count r.graph) r.inside) in
+    let table : c.index.result.now ≡ c.renew_kept.new.rows = c.index.ensures ∙ get_or-set_same c.args.graph.now.rows.items c.args.hop.term c.renew_kept.new.rows c.index.result.now (rw (rows_count r.graph) r.inside) in
     rw (table, c.elements.ensures) (c.in_ok-changes.ensures.rows ∙ shown.1)
 
 pub returns-clause-moved : goal.returns-clause-moved
@@ -210,11 +235,11 @@ returns-clause-graph g c =
     let e = c.in_ok-changes.ensures in
     let shown = rows_shown r.graph c.args.hop.term r.inside c.index-terms-i.result c.index-terms-i.is c.index_mut-rows.result.now c.index_mut-rows.ensures.value in
     let raised = rw shown.0 at (simp to_z-of_z at e.raised) in
-    let noted : g.T.Term.fits term c.renew_rows.new.note c.args.q y = simp to_z-of_z at e.noted in
+    let noted : kept_fits g.T.Term.fits term c.renew_kept.new.kept c.args.q y = simp to_z-of_z at e.noted in
     let mid = c.renew.new.unions.items in
-    let table : c.index.result.now ≡ c.renew_rows.new.rows = c.index.ensures ∙ get_or-set_same c.args.graph.now.rows.items i c.renew_rows.new.rows c.index.result.now (rw (rows_count r.graph) r.inside) in
-    let united = united_by r.graph i r.inside term is c.renew_rows.new.rows c.in_ok-changes.changes mid c.widen.new.unions.items raised.changes (rw (c.deref.ensures.value, c.deref-2.ensures.value) at c.renew.ensures.renewed) (rw (c.elements.ensures, table) at c.widen.ensures.widened) in
-    rw whole (claimed_after r.graph i r.inside term is y c.renew_rows.new.note c.renew_rows.new.rows c.renew_rows.new.claimed _ (still g at.After-at-1 (here g at.After-moved-arg-1)) noted (e.rows ∙ shown.1)
+    let table : c.index.result.now ≡ c.renew_kept.new.rows = c.index.ensures ∙ get_or-set_same c.args.graph.now.rows.items i c.renew_kept.new.rows c.index.result.now (rw (rows_count r.graph) r.inside) in
+    let united = united_by r.graph i r.inside term is c.renew_kept.new.rows c.in_ok-changes.changes mid c.widen.new.unions.items raised.changes (rw (c.deref.ensures.value, c.deref-2.ensures.value) at c.renew.ensures.renewed) (rw (c.elements.ensures, table) at c.widen.ensures.widened) in
+    rw whole (claimed_after r.graph i r.inside term is y c.renew_kept.new.kept c.renew_kept.new.rows c.renew_kept.new.claimed _ (still g at.After-at-1 (here g at.After-row_mut-x)) noted (e.rows ∙ shown.1)
     raised.claims united c.widen.ensures.turned refl refl refl refl refl)
 
 pub index_mut-note-requires : goal.index_mut-note-requires

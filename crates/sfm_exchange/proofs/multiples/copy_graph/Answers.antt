@@ -1,28 +1,23 @@
 use Rattle.std.proofs.Common.{FitsSigned, ◌∙◌}
-use Rattle.std.proofs.lemmas.Int.{to_z-of_z}
 use mir.Syntax.{w128}
 use Rattle.sfm_exchange.proofs.ClaimedGraphs.{shaped, whole_claimed}
 use Rattle.sfm_exchange.proofs.Scaling.{unions_same}
-use Rattle.sfm_reach.proofs.Basing.{are_based}
 use Rattle.sfm_exchange.proofs.multiples.copy_graph.Goals as goal
 
 pub blank_graph-requires : goal.blank_graph-requires
 blank_graph-requires g c = c.requires.bounded.placed
 
-pub take_rows-requires-clause-based : goal.take_rows-requires-clause-based
-take_rows-requires-clause-based g c =
-    let m = g.met.T.Term in
-    let fq : FitsSigned w128 c.args.q = c.ranges.q in
-    rw c.in_ok-copied-2.ensures (simp to_z-of_z (are_based m.submodular m.bounded c.requires.bounded c.requires.factor c.requires.graph.are_bases c.requires.small))
-
-pub take_rows-requires-clause-shaped : goal.take_rows-requires-clause-shaped
-take_rows-requires-clause-shaped g c =
+pub take_rows-requires : goal.take_rows-requires
+take_rows-requires g c =
     let r = c.requires in
-    let b = c.in_ok-copied.ensures in (
-      c.args.n,
-      record { are_spots = b.are_spots; sized_rows = b.sized_rows; claim_count = b.claim_count; union_count = b.union_count; back_count = b.back_count },
-      shaped (whole_claimed (record { bounded = r.bounded; factor = r.factor; exact = r.graph })),
-    )
+    let b = c.in_ok-copied.ensures in
+    record {
+      shaped = (
+        c.args.n,
+        record { are_spots = b.are_spots; sized_rows = b.sized_rows; claim_count = b.claim_count; union_count = b.union_count; back_count = b.back_count },
+        shaped (whole_claimed (record { bounded = r.bounded; factor = r.factor; exact = r.graph })),
+      );
+    }
 
 pub returns : goal.returns
 returns g c =
@@ -35,7 +30,7 @@ returns g c =
       are_bases = rw bases o.are_bases;
       note_count = taken.count;
       claim_count = rw taken.claimed o.claim_count;
-      noted = rw taken.bases (simp to_z-of_z at taken.noted);
+      noted = rw taken.bases (taken.noted c.args.q);
       sized_rows = rw taken.rows o.sized_rows;
       tables = rw (taken.rows, bases) o.tables;
       are_spots = rw taken.spots spots;

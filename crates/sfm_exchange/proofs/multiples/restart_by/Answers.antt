@@ -8,7 +8,6 @@ use Rattle.sfm_exchange.specs.Graph.{IsGraph}
 use Rattle.sfm_exchange.specs.Scaled.{row_times}
 use Rattle.sfm_exchange.proofs.ClaimedGraphs.{are_terms, base_count, counted, shaped, whole_claimed}
 use Rattle.sfm_exchange.proofs.Scaling.{claims_times, unions_same}
-use Rattle.sfm_reach.proofs.Basing.{are_based}
 use Rattle.sfm_exchange.proofs.multiples.restart_by.Given as given
 use Rattle.sfm_exchange.proofs.multiples.restart_by.Goals.{After-len-n}
 use Rattle.sfm_exchange.proofs.multiples.restart_by.Goals as goal
@@ -46,16 +45,10 @@ returns-then-not-are_multiples-clause-graph g c =
 pub returns-then-not-are_multiples-clause-bases : goal.returns-then-not-are_multiples-clause-bases
 returns-then-not-are_multiples-clause-bases g c = c.in_ok-restart.ensures.bases
 
-pub take_rows-requires-clause-based : goal.take_rows-requires-clause-based
-take_rows-requires-clause-based g c =
-    let m = g.met.T.Term in
-    let fq : FitsSigned w128 c.args.q = c.ranges.q in
-    simp to_z-of_z (are_based m.submodular m.bounded c.requires.bounded c.requires.factor c.requires.bases c.requires.small)
-
-pub take_rows-requires-clause-shaped : goal.take_rows-requires-clause-shaped
-take_rows-requires-clause-shaped g c =
+pub take_rows-requires : goal.take_rows-requires
+take_rows-requires g c =
     let s = c.requires.graph in
-    (length c.args.graph.now.spots.items, record { are_spots = s.are_spots; sized_rows = s.sized_rows; claim_count = s.claim_count; union_count = s.union_count; back_count = s.back_count }, shaped c.requires.other)
+    record { shaped = (length c.args.graph.now.spots.items, record { are_spots = s.are_spots; sized_rows = s.sized_rows; claim_count = s.claim_count; union_count = s.union_count; back_count = s.back_count }, shaped c.requires.other) }
 
 pub returns-clause-graph : goal.returns-clause-graph
 returns-clause-graph g c =
@@ -73,7 +66,7 @@ returns-clause-graph g c =
       are_bases = rw taken.bases r.bases;
       note_count = taken.count;
       claim_count = rw taken.claimed o.claim_count;
-      noted = rw taken.bases (simp to_z-of_z at taken.noted);
+      noted = rw taken.bases (taken.noted c.args.q);
       sized_rows = rw taken.rows o.sized_rows;
       claims = λ i l. rw (taken.bases, taken.claimed, taken.rows)
           (claims_times _ _ _ other.bases c.args.bases other.claimed.items other.rows.items r.factor.low fit o.are_bases r.bases i (rw (counted o) l) (same i (rw (base_count o) l)) (o.claims i l));

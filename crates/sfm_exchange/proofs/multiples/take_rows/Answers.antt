@@ -1,10 +1,5 @@
-use Rattle.std.proofs.Common.{length, map, ap, ◌∙◌, arith, refl, FitsSigned}
-use Rattle.std.proofs.lemmas.Int.{to_z-of_z}
-use mir.Syntax.{w128}
+use Rattle.std.proofs.Common.{length, map, ap, ◌∙◌, arith, refl}
 use Rattle.sfm_exchange.proofs.multiples.take_rows.Goals as goal
-
-pub notes_of-requires : goal.notes_of-requires
-notes_of-requires g c = let fq : FitsSigned w128 c.args.q = c.ranges.q in simp to_z-of_z c.requires.based
 
 pub copy_tables-requires : goal.copy_tables-requires
 copy_tables-requires g c =
@@ -39,7 +34,7 @@ pub returns-clause-count : goal.returns-clause-count
 returns-clause-count g c = c.in_ok-graph.ensures.count
 
 pub returns-clause-noted : goal.returns-clause-noted
-returns-clause-noted g c = let fq : FitsSigned w128 c.args.q = c.ranges.q in simp to_z-of_z at c.in_ok-graph.ensures.fit
+returns-clause-noted g c = λ q. c.in_ok-graph.ensures.fit q _
 
 pub returns-clause-rows : goal.returns-clause-rows
 returns-clause-rows g c = c.copy_tables.ensures ∙ c.deref.ensures.value

@@ -10,7 +10,7 @@ use Rattle.sfm_spec.specs.Walks.{base_at}
 use Rattle.sfm_law.proofs.Lists.{meanings-at, length-meanings}
 use Rattle.sfm_reach.specs.declared.bits.Bits.{Bits}
 use Rattle.sfm_reach.specs.Based.{IsBased}
-use Rattle.sfm_reach.specs.Reach.{IsReachTable, IsTable, table_at}
+use Rattle.sfm_reach.specs.Reach.{IsReachTable, IsTable, kept_fits, table_at}
 use Rattle.sfm_reach.proofs.Noting.{notes_put, sized_read, sized_set}
 use Rattle.sfm_reach.proofs.Reaching.{table_steps}
 use Rattle.sfm_reach.proofs.asking.ask_all.Goals as goal
@@ -31,12 +31,12 @@ tables_more places value terms q bases tables i term rows l is inside distinct b
   at (inl same) = subst Right (sym same) (rw (get_or-set_same tables i rows [] inside) here)
   at (inr ne) = rw (get_or-set_other tables i j rows [] ne) (before j (omega (arith, lj, ne)))
 
-pub ask-requires-clause-noted : goal.ask-requires-clause-noted
-ask-requires-clause-noted g c =
+pub ask_kept-requires-clause-noted : goal.ask_kept-requires-clause-noted
+ask_kept-requires-clause-noted g c =
     let t = g.T.Term in
     let fq : FitsSigned w128 c.args.q = c.ranges.q in
     let inv = simp to_z-of_z at c.loop-i.invariant in
-    let F : List ℤ → Type 0 = λ x. t.fits c.index-terms-i.result c.index_mut-note.result.now c.args.q x in
+    let F : List ℤ → Type 0 = λ x. kept_fits t.fits c.index-terms-i.result c.index_mut-note.result.now c.args.q x in
     let noted : F c.row-x.result.now = subst F (sym c.row-x.ensures) (inv.3 c.loop-i.i c.loop-i-test.true c.index-terms-i.result c.index-terms-i.is c.index_mut-note.result.now c.index_mut-note.ensures.value) in
     simp to_z-of_z noted
 
@@ -52,7 +52,7 @@ loop-i-preserved g c =
     let inv = simp to_z-of_z at c.loop-i.invariant in
     let tables = c.loop-i.rows.items in
     let inside : i < length tables = omega (arith, inv.0.count, length-map terms t.places, l) in
-    let e = c.in_ok-ask.ensures in
+    let e = c.in_ok-ask_kept.ensures in
     let same = e.rows ∙ ap length (c.index_mut.ensures.value ∙ get_or_default tables i c.index_mut.result.now [] inside) in
     let shown : c.row-x.result.now ≡ base_at c.args.bases.now i = c.row-x.ensures in
     let told = simp to_z-of_z at (rw shown at e.asked) in
@@ -60,10 +60,10 @@ loop-i-preserved g c =
     let notes = c.loop-i.notes.items in
     let based = c.requires.based.each i l term is in
     simp to_z-of_z (
-      sized_set _ tables i c.ask.new.rows inv.0 same,
-      tables_more t.places t.value_of terms c.args.q c.args.bases.now tables i term c.ask.new.rows l is inside based.placed.distinct inv.1 told,
-      length-set notes i c.ask.new.note ∙ inv.2,
-      notes_put t.fits c.args.q terms notes c.args.bases.now i term c.ask.new.note inv.2 l inv.3 is noted,
+      sized_set _ tables i c.ask_kept.new.rows inv.0 same,
+      tables_more t.places t.value_of terms c.args.q c.args.bases.now tables i term c.ask_kept.new.rows l is inside based.placed.distinct inv.1 told,
+      length-set notes i c.ask_kept.new.kept ∙ inv.2,
+      notes_put (kept_fits t.fits) c.args.q terms notes c.args.bases.now i term c.ask_kept.new.kept inv.2 l inv.3 is noted,
     )
 
 pub returns : goal.returns
@@ -81,15 +81,15 @@ loop-i-init g c =
 pub row-x-requires : goal.row-x-requires
 row-x-requires g c = rw c.requires.based.count c.loop-i-test.true
 
-pub ask-requires-clause-based : goal.ask-requires-clause-based
-ask-requires-clause-based g c =
+pub ask_kept-requires-clause-based : goal.ask_kept-requires-clause-based
+ask_kept-requires-clause-based g c =
     let t = g.T.Term in
     let fq : FitsSigned w128 c.args.q = c.ranges.q in
     let B : List ℤ → Type 0 = λ x. IsBased t.places t.value_of t.size_of c.index-terms-i.result c.args.q x in
     simp to_z-of_z (subst B (sym c.row-x.ensures) (c.requires.based.each c.loop-i.i c.loop-i-test.true c.index-terms-i.result c.index-terms-i.is))
 
-pub ask-requires-clause-rows : goal.ask-requires-clause-rows
-ask-requires-clause-rows g c =
+pub ask_kept-requires-clause-rows : goal.ask_kept-requires-clause-rows
+ask_kept-requires-clause-rows g c =
     let t = g.T.Term in
     let i = c.loop-i.i in
     let l = c.loop-i-test.true in

@@ -1,0 +1,103 @@
+// The note of a term beside its base, made once it is wanted first. A graph at bases that were not asked, as one whose rows are those of
+// another graph, makes none for the terms that no walk goes by.
+ghost use Rattle.std.specs.Prelude.{◌≡◌, ◌<◌, ℤ, List, length, IfOk, IfSome, OnOk};
+ghost use Rattle.sfm_spec.specs.Terms.{times};
+ghost use Rattle.sfm_reach.specs.{Based.{IsBased}, Reach.{AreNotes, IsReachTable, IsRow, kept_fits}};
+
+use crate::bits::Bits;
+use crate::reach::{Based, BitRows, ask, row_by};
+use sfm_base::Memory;
+use sfm_law::Term;
+use std::alloc::Global;
+
+/// The note of a term at its base: the one that is kept, or else one that is made now.
+///
+/// # Errors
+///
+/// `Memory` where there is none.
+pub fn note_at<T: Term>(
+    alloc: Global,
+    at: &Based<'_, T>,
+    kept: Option<T::Note>,
+) -> Result<T::Note, Memory>
+    requires based { IsBased T.places T.value_of T.size_of at.now.term.now at.now.q at.now.x.now }
+    requires kept { IfSome kept (λ note. T.fits at.now.term.now note at.now.q at.now.x.now) }
+    ensures { IfOk result (λ note. T.fits at.now.term.now note at.now.q at.now.x.now) }
+{
+    match kept {
+        Some(note) => Ok(note),
+        None => at.term.note(alloc, at.q, at.x),
+    }
+}
+
+/// The row of the place u, as `row_by` tells it, by the note that is kept or made now, which is kept then. After want of memory
+/// nothing is said of what is kept.
+///
+/// # Errors
+///
+/// `Memory` where there is none.
+pub fn row_kept<T: Term>(
+    alloc: Global,
+    at: &Based<'_, T>,
+    kept: &mut Option<T::Note>,
+    u: usize,
+    rows: &mut BitRows,
+) -> Result<Bits, Memory>
+    requires based { IsBased T.places T.value_of T.size_of at.now.term.now at.now.q at.now.x.now }
+    requires noted { kept_fits T.fits at.now.term.now kept.old at.now.q at.now.x.now }
+    requires from { u < length at.now.x.now }
+    requires rows { length rows.old ≡ length at.now.x.now }
+    ensures same { OnOk result (rows.new ≡ rows.old) }
+    ensures row { IfOk result (IsRow (T.places at.now.term.now)
+        (times at.now.q (T.value_of at.now.term.now)) at.now.x.now u) }
+    ensures noted { OnOk result (kept_fits T.fits at.now.term.now kept.new at.now.q at.now.x.now) }
+{
+    let mut note = note_at(alloc, at, kept.take())?;
+    let row = row_by(alloc, at, &mut note, u, rows)?;
+    *kept = Some(note);
+    Ok(row)
+}
+
+/// Asks for each row of a term at its base, as `ask` does, by the note that is kept or made now, which is kept then. After want
+/// of memory nothing is said of what is kept.
+///
+/// # Errors
+///
+/// `Memory` where there is none.
+pub fn ask_kept<T: Term>(
+    alloc: Global,
+    at: &Based<'_, T>,
+    kept: &mut Option<T::Note>,
+    rows: &mut BitRows,
+) -> Result<(), Memory>
+    requires based { IsBased T.places T.value_of T.size_of at.now.term.now at.now.q at.now.x.now }
+    requires noted { kept_fits T.fits at.now.term.now kept.old at.now.q at.now.x.now }
+    requires rows { length rows.old ≡ length at.now.x.now }
+    ensures rows { OnOk result (length rows.new ≡ length rows.old) }
+    ensures asked { OnOk result (IsReachTable (T.places at.now.term.now)
+        (times at.now.q (T.value_of at.now.term.now)) at.now.x.now
+        (length (T.places at.now.term.now)) rows.new) }
+    ensures noted { OnOk result (kept_fits T.fits at.now.term.now kept.new at.now.q at.now.x.now) }
+{
+    let mut note = note_at(alloc, at, kept.take())?;
+    ask(alloc, at, &mut note, rows)?;
+    *kept = Some(note);
+    Ok(())
+}
+
+/// For each term no note, which is right beside all bases.
+///
+/// # Errors
+///
+/// `Memory` where there is none.
+pub fn no_notes<T: Term>(alloc: Global, terms: &[T]) -> Result<Vec<Option<T::Note>>, Memory>
+    ensures count { IfOk result (λ r. length r.items ≡ length terms.now) }
+    ensures fit { IfOk result (λ r. (q : ℤ) (bases : List (List ℤ))
+        → AreNotes (kept_fits T.fits) q terms.now r.items bases) }
+{
+    let mut notes = Vec::new(alloc);
+    for _ in terms {
+        notes.push(None)?;
+    }
+    Ok(notes)
+}
