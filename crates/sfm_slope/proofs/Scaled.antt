@@ -8,6 +8,7 @@ use Rattle.sfm_spec.specs.Bounds.{IsAtMost, IsEntry, IsFactor}
 use Rattle.sfm_spec.specs.Slopes.{IsSameSlope}
 use Rattle.sfm_base.proofs.Slopes.{at_most_from_abs}
 use Rattle.sfm_spec.proofs.Scaled.{times-assoc, times-comm, times-mono}
+use Rattle.sfm_exchange.proofs.Scaling.{one-times}
 use Rattle.sfm_exchange.specs.Scaled.{row_times}
 
 -- 64 times a factor that is not too large is a factor
@@ -39,6 +40,15 @@ row-small q x f h = All-map (IsAtMost (10 ^ 25)) (λ a. q *ℤ a) x (λ k d l. o
 pub rows-small : (q : ℤ) (rows : List (List ℤ)) → IsFactor q → All (λ x. All (IsAtMost (10 ^ 19)) x) rows
     → All (λ x. All (IsAtMost (10 ^ 25)) x) (map (row_times q) rows)
 rows-small q rows f h = All-map (λ x. All (IsAtMost (10 ^ 25)) x) (row_times q) rows (λ k d l. row-small q (get_or rows k d) f (h k d l))
+
+-- once each entry
+row_once : (x : List ℤ) → row_times (pos 1) x ≡ x
+row_once [] = refl
+row_once (a ∷ x) = rw (one-times a, row_once x) refl
+
+pub rows_once : (rows : List (List ℤ)) → map (row_times (pos 1)) rows ≡ rows
+rows_once [] = refl
+rows_once (x ∷ rows) = rw (row_once x, rows_once rows) refl
 
 -- entries that are small are entries
 pub rows-entries : (rows : List (List ℤ)) → All (λ x. All (IsAtMost (10 ^ 25)) x) rows → All (λ x. All IsEntry x) rows

@@ -1,6 +1,6 @@
 // The bases of each breakpoint. They hang on the terms and the slopes alone, and few walks lead to them from the first bases,
-// however the breakpoints were found. Where there are few, or fewer than terms, each is found by a run of its own from the first
-// bases, and where there are many, by a tree of stages.
+// however the breakpoints were found. Where there are few, or many more terms, each is found by a run of its own from the first
+// bases, and else by a tree of stages.
 ghost use Rattle.std.specs.{Prelude.{◌≡◌, length, map, IfOk, OnOk}, List.{All}};
 ghost use Rattle.sfm_spec.specs.Families.{meanings};
 ghost use Rattle.sfm_sizes.specs.Sizes.{AreElementSizes};
@@ -32,19 +32,22 @@ pub fn sections<T: Term>(
         (λ q. map (λ term. T.start_of term q) terms.now) (length sizes.now) sizes.now) r.items) }
 {
     let mut breaks = Vec::new(search.alloc);
-    if found.len() < FEW_BREAKPOINTS.max(terms.len()) {
+    if found.len() < FEW_BREAKPOINTS || found.len() < terms.len() / MANY_TERMS {
         for point in found {
             breaks.push(section(search, terms, sizes, point)?)?;
         }
         return Ok(breaks);
     }
-    let first = first_standing(search.alloc, terms, sizes, found)?;
-    branch(search, terms, sizes, found, &first, &mut breaks)?;
+    let first = first_standing(search.alloc, terms, sizes, found, &search.first)?;
+    branch(search, terms, sizes, found, first, &mut breaks)?;
     Ok(breaks)
 }
 
-// So few breakpoints share too little for stages to be worth their graphs; and a graph is dear where there are many terms.
+// So few breakpoints share too little for stages to be worth their graphs.
 const FEW_BREAKPOINTS: usize = 16;
+
+// A graph is dear where there are so many times as many terms as breakpoints.
+const MANY_TERMS: usize = 6;
 
 /// A breakpoint with bases that prove at its slope, by a run from the first bases.
 ///

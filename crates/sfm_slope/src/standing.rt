@@ -1,15 +1,16 @@
 // Where a stage ends: bases of the terms to which walks lead from the first bases that are walk moves at each of some
 // breakpoints, and how many there are. Another stage goes on from there over fewer breakpoints: so they form a tree, and each
 // walk is made once for all breakpoints below it.
-ghost use Rattle.std.specs.{Prelude.{◌≡◌, ◌^◌, ◌<◌, ◌≤◌, length, map, pos, ◌*ℤ◌, ◌≤ℤ◌, IfOk}, List.{All}};
-ghost use Rattle.sfm_spec.specs.{Bounds.{AreBounded, IsAtMost, IsFactor}, Families.{meanings}, Walks.{few_walks}};
+ghost use Rattle.std.specs.{Prelude.{◌≡◌, ◌^◌, ◌<◌, ◌≤◌, length, map, pos, ◌*ℤ◌, ◌≤ℤ◌, IfOk, OnOk}, List.{All}};
+ghost use Rattle.sfm_spec.specs.{Bounds.{IsAtMost, IsFactor}, Families.{meanings}, Walks.{few_walks}};
+ghost use Rattle.sfm_exchange.specs.Graph.{IsClaimed};
 ghost use Rattle.sfm_sizes.specs.Sizes.{AreElementSizes};
 ghost use Rattle.sfm_slope.specs.{Points.{IsInRange}, Standings.{IsStanding}};
 
 use crate::rows::first_rows;
 use crate::turn::Breakpoint;
 use sfm_base::{Memory, Rows, Slope};
-use sfm_exchange::{Graph, copy_rows, graph_at};
+use sfm_exchange::{Graph, copy_rows, graph_by};
 use sfm_law::Term;
 use sfm_sizes::shift_by;
 use sfm_stage::run_stage;
@@ -36,7 +37,7 @@ impl<N: Drop> Drop for Standing<N> {
     }
 }
 
-/// The first bases of the terms, to which no walk leads.
+/// The first bases of the terms, to which no walk leads, beside a graph of the terms at them.
 ///
 /// # Errors
 ///
@@ -46,15 +47,16 @@ pub fn first_standing<T: Term>(
     terms: &[T],
     sizes: &[i128],
     _found: &[Breakpoint],
+    first: &Graph<T::Note>,
 ) -> Result<Standing<T::Note>, Memory>
-    requires bounded { AreBounded (length sizes.now) (map T.places terms.now)
-        (map T.size_of terms.now) }
+    requires first { IsClaimed T.places T.value_of T.size_of T.fits terms.now (length sizes.now)
+        (pos 1) first.now }
     ensures { IfOk result (IsStanding T.places T.value_of T.size_of T.fits T.start_of terms.now
         sizes.now _found.now) }
 {
     let bases = first_rows(alloc, terms, 1)?;
     let firsts = copy_rows(alloc, &bases)?;
-    let graph = graph_at(alloc, terms, sizes.len(), 1, bases)?;
+    let graph = graph_by(alloc, terms, sizes.len(), 1, bases, first)?;
     Ok(Standing {
         firsts,
         graph,
@@ -62,41 +64,62 @@ pub fn first_standing<T: Term>(
     })
 }
 
-/// The end of a stage over some breakpoints that begins where another one ended, at bases that are not too large. It looks for a
-/// walk no more often than a minimisation may walk.
+/// The same once more.
 ///
 /// # Errors
 ///
 /// `Memory` where there is none.
-pub fn stage_from<T: Term>(
+pub fn copy_standing<T: Term>(
+    alloc: Global,
+    terms: &[T],
+    sizes: &[i128],
+    _found: &[Breakpoint],
+    at: &Standing<T::Note>,
+) -> Result<Standing<T::Note>, Memory>
+    requires standing { IsStanding T.places T.value_of T.size_of T.fits T.start_of terms.now
+        sizes.now _found.now at.now }
+    ensures { IfOk result (IsStanding T.places T.value_of T.size_of T.fits T.start_of terms.now
+        sizes.now _found.now) }
+{
+    let firsts = copy_rows(alloc, &at.firsts)?;
+    let bases = copy_rows(alloc, &at.graph.bases)?;
+    let graph = graph_by(alloc, terms, sizes.len(), 1, bases, &at.graph)?;
+    Ok(Standing {
+        firsts,
+        graph,
+        walks: at.walks,
+    })
+}
+
+/// Goes on by a stage over some breakpoints, from bases that are not too large. It looks for a walk no more often than a
+/// minimisation may walk.
+///
+/// # Errors
+///
+/// `Memory` where there is none; nothing is then said of where it ended.
+pub fn stage_over<T: Term>(
     alloc: Global,
     terms: &[T],
     sizes: &[i128],
     found: &[Breakpoint],
-    at: &Standing<T::Note>,
-) -> Result<Standing<T::Note>, Memory>
+    at: &mut Standing<T::Note>,
+) -> Result<(), Memory>
     requires sizes { AreElementSizes (length sizes.now) sizes.now }
     requires some { 0 < length found.now }
     requires ranges { All (IsInRange sizes.now) found.now }
-    requires small { All (λ x. All (IsAtMost (10 ^ 25)) x) at.now.graph.bases }
-    requires few { at.now.walks ≤ 10 ^ 12 }
+    requires small { All (λ x. All (IsAtMost (10 ^ 25)) x) at.old.graph.bases }
+    requires few { at.old.walks ≤ 10 ^ 12 }
     requires standing { IsStanding T.places T.value_of T.size_of T.fits T.start_of terms.now
-        sizes.now found.now at.now }
-    ensures { IfOk result (IsStanding T.places T.value_of T.size_of T.fits T.start_of terms.now
-        sizes.now found.now) }
+        sizes.now found.now at.old }
+    ensures { OnOk result (IsStanding T.places T.value_of T.size_of T.fits T.start_of terms.now
+        sizes.now found.now at.new) }
 {
     let low = shift_by(alloc, sizes, floor_of(found, sizes))?;
     let high = shift_by(alloc, sizes, ceiling_of(found, sizes))?;
-    let bases = copy_rows(alloc, &at.graph.bases)?;
-    let mut graph = graph_at(alloc, terms, sizes.len(), 1, bases)?;
     let most = most_walks(sizes.len(), terms.len());
-    let walks = run_stage(alloc, &mut graph, terms, &low, &high, most)?;
-    let firsts = copy_rows(alloc, &at.firsts)?;
-    Ok(Standing {
-        firsts,
-        graph,
-        walks: at.walks + walks,
-    })
+    let walks = run_stage(alloc, &mut at.graph, terms, &low, &high, most)?;
+    at.walks += walks;
+    Ok(())
 }
 
 /// The most walks that a minimisation over n elements and m terms takes.

@@ -1,21 +1,23 @@
 // The sections of many breakpoints by one tree of stages. A stage serves all slopes of its breakpoints; each half of them goes on
-// from its bases, and in the end each breakpoint from the bases of its part, multiplied by the denominator of its slope. The
-// walks of the stages and those of the breakpoint's own run lead, one after the other, from the first bases to its section, and
-// are counted. Where there are too many, as where numbers are too large, the section is found from the first bases anew.
+// from its bases, the first one in a copy of the graph and the other in the graph itself. Where a part has few breakpoints,
+// each goes on by itself from the bases of the part, multiplied by the denominator of its slope. The walks of the stages and
+// those of the breakpoint's own run lead, one after the other, from the first bases to its section, and are counted. Where
+// there are too many, as where numbers are too large, the section is found from the first bases anew.
 ghost use Rattle.std.specs.{Prelude.{◌≡◌, ◌++◌, ◌∷◌, [], ◌^◌, ◌≤◌, true, length, map, pos, ◌≤ℤ◌, IfOk, OnOk, IfSome}, List.{All}};
 ghost use Rattle.sfm_spec.specs.{Bounds.{IsAtMost, IsFactor, total_of}, Families.{meanings, sized_shift}, Walks.{IsWalkChain}};
 ghost use Rattle.sfm_sizes.specs.Sizes.{AreElementSizes};
+ghost use Rattle.sfm_exchange.specs.Scaled.{row_times};
 ghost use Rattle.sfm_stage.specs.Served.{rows_times};
 ghost use Rattle.sfm_slope.specs.{Marks.{HasBasesBy, mark_of}, Points.{IsInRange, found_mark}, Searches.{IsSearch}, Standings.{IsStanding, IsSection}};
 
 use crate::rows::{all_times, are_small, first_rows};
 use crate::search::Search;
 use crate::sections::section;
-use crate::standing::{Standing, most_walks, stage_from};
+use crate::standing::{Standing, copy_standing, most_walks, stage_over};
 use crate::turn::Breakpoint;
 use sfm_base::{Memory, Rows, Slope, Steps};
-use sfm_exchange::restart_by;
-use sfm_law::{Break, Term};
+use sfm_exchange::{copy_rows, restart_by};
+use sfm_law::{Break, Term, product};
 use sfm_sizes::write_sized;
 use sfm_walk::improve;
 use std::alloc::Global;
@@ -31,7 +33,7 @@ pub fn branch<T: Term>(
     terms: &[T],
     sizes: &[i128],
     found: &[Breakpoint],
-    at: &Standing<T::Note>,
+    at: Standing<T::Note>,
     breaks: &mut Vec<Break>,
 ) -> Result<(), Memory>
     requires sizes { AreElementSizes (length sizes.now) sizes.now }
@@ -39,7 +41,7 @@ pub fn branch<T: Term>(
         (length sizes.now) search.old }
     requires ranges { All (IsInRange sizes.now) found.now }
     requires standing { IsStanding T.places T.value_of T.size_of T.fits T.start_of terms.now
-        sizes.now found.now at.now }
+        sizes.now found.now at }
     requires before { All (HasBasesBy (meanings T.places T.value_of terms.now)
         (λ q. map (λ term. T.start_of term q) terms.now) (length sizes.now) sizes.now)
         breaks.old.items }
@@ -53,14 +55,22 @@ pub fn branch<T: Term>(
 {
     let few = most_walks(sizes.len(), terms.len());
     if found.len() < 2 || at.walks > few || !are_small(&at.graph.bases, MOST_AT_STAGE) {
-        return leaves(search, terms, sizes, found, at, breaks);
+        return leaves(search, terms, sizes, found, &at, breaks);
     }
-    let next = stage_from(search.alloc, terms, sizes, found, at)?;
+    let mut at = at;
+    stage_over(search.alloc, terms, sizes, found, &mut at)?;
+    if found.len() < FEW_AT_LEAVES {
+        return leaves(search, terms, sizes, found, &at, breaks);
+    }
     let mid = found.len() / 2;
-    branch(search, terms, sizes, &found[..mid], &next, breaks)?;
-    branch(search, terms, sizes, &found[mid..], &next, breaks)?;
+    let again = copy_standing(search.alloc, terms, sizes, found, &at)?;
+    branch(search, terms, sizes, &found[..mid], again, breaks)?;
+    branch(search, terms, sizes, &found[mid..], at, breaks)?;
     Ok(())
 }
+
+// So few breakpoints go on by runs of their own from the end of one stage.
+const FEW_AT_LEAVES: usize = 8;
 
 // The greatest magnitude of an entry at which a stage may begin.
 const MOST_AT_STAGE: u128 = 10_000_000_000_000_000_000_000_000;
@@ -140,6 +150,7 @@ fn multiple_of<T: Term>(
 ) -> Result<Option<Rows>, Memory>
     requires sizes { total_of (map T.size_of terms.now) ≤ℤ pos (10 ^ 18) }
     requires factor { IsFactor q }
+    requires begins { at.now.firsts ≡ map (λ term. T.start_of term (pos 1)) terms.now }
     ensures { IfOk result (λ r. IfSome r (λ rows. (rows ≡ rows_times q at.now.graph.bases)
         × All (λ x. All (IsAtMost (10 ^ 25)) x) rows
         × (rows_times q at.now.firsts ≡ map (λ term. T.start_of term q) terms.now))) }
@@ -147,9 +158,12 @@ fn multiple_of<T: Term>(
     if !are_small(&at.graph.bases, MOST_MULTIPLIED) || !are_small(&at.firsts, MOST_MULTIPLIED) {
         return Ok(None);
     }
-    let firsts = all_times(alloc, q, &at.firsts)?;
+    if q == 1 {
+        let copied = copy_rows(alloc, &at.graph.bases)?;
+        return Ok(Some(copied));
+    }
     let starts = first_rows(alloc, terms, q)?;
-    if !are_same(&firsts, &starts) {
+    if !are_times(q, &at.firsts, &starts) {
         return Ok(None);
     }
     let bases = all_times(alloc, q, &at.graph.bases)?;
@@ -201,30 +215,34 @@ fn walk_on<T: Term>(
     Ok(Some(mem::replace(&mut search.cold.bases, Rows::new(alloc))))
 }
 
-// Whether two lists of rows have the same entries.
-fn are_same(rows: &Rows, others: &Rows) -> bool
-    ensures { result ≡ true → rows.now ≡ others.now }
+// Whether each entry of the other rows is q times that of the rows.
+fn are_times(q: i128, rows: &Rows, others: &Rows) -> bool
+    requires factor { IsFactor q }
+    requires small { All (λ x. All (IsAtMost (10 ^ 21)) x) rows.now }
+    ensures { result ≡ true → others.now ≡ rows_times q rows.now }
 {
     if rows.len() != others.len() {
         return false;
     }
     for i in 0..rows.len() {
-        if !is_same(rows.row(i), others.row(i)) {
+        if !is_times(q, rows.row(i), others.row(i)) {
             return false;
         }
     }
     true
 }
 
-// Whether two rows have the same entries.
-fn is_same(x: &[i128], y: &[i128]) -> bool
-    ensures { result ≡ true → x.now ≡ y.now }
+// Whether each entry of y is q times that of x.
+fn is_times(q: i128, x: &[i128], y: &[i128]) -> bool
+    requires factor { IsFactor q }
+    requires small { All (IsAtMost (10 ^ 21)) x.now }
+    ensures { result ≡ true → y.now ≡ row_times q x.now }
 {
     if x.len() != y.len() {
         return false;
     }
     for (j, a) in x.iter().enumerate() {
-        if *a != y[j] {
+        if product(q, *a) != y[j] {
             return false;
         }
     }

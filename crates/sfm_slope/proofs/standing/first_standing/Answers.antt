@@ -1,7 +1,5 @@
 use Rattle.std.proofs.Common.{◌∙◌, arith}
-use Rattle.std.proofs.lemmas.Int.{ints}
 use Rattle.sfm_spec.specs.Families.{meanings}
-use Rattle.sfm_exchange.proofs.ClaimedGraphs.{whole_claimed}
 use Rattle.sfm_slope.proofs.Reached.{reached_none}
 use Rattle.sfm_slope.proofs.Scaled.{rows-entries}
 use Rattle.sfm_slope.proofs.standing.first_standing.Goals as goal
@@ -12,7 +10,7 @@ returns g c =
     let b = c.in_ok-bases.ensures in
     let h = c.in_ok-graph.ensures in
     record {
-      claimed = whole_claimed (record { bounded = c.requires.bounded; factor = record { low = omega (arith, ints); high = omega (arith, ints) }; exact = h.graph });
+      claimed = h.graph;
       small = rw h.bases (rows-entries c.in_ok-bases.bases b.small);
       begins = c.in_ok-firsts.ensures ∙ b.starts;
       few = omega arith;

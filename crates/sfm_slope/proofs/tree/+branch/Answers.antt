@@ -1,4 +1,4 @@
-use Rattle.std.proofs.Common.{◌≡◌, ◌-◌, ◌/◌, ◌≤◌, ◌<◌, ℕ, List, length, map, take, drop, arith}
+use Rattle.std.proofs.Common.{◌≡◌, ◌-◌, ◌/◌, ◌^◌, ◌≤◌, ◌<◌, ℕ, List, length, map, take, drop, arith}
 use Rattle.std.proofs.Math.Nat.{mul-div-le, lt-mul-div-succ}
 use Rattle.std.proofs.lemmas.List.{length-drop, length-take-le, take_all}
 use Rattle.std.proofs.lemmas.List.Elements.{All-drop, All-take}
@@ -6,6 +6,7 @@ use Rattle.sfm_slope.specs.declared.turn.Breakpoint.{Breakpoint}
 use Rattle.sfm_slope.specs.Marks.{mark_of}
 use Rattle.sfm_slope.specs.Points.{IsInRange, found_mark}
 use Rattle.sfm_slope.proofs.Reached.{mapped_parts, standing_over}
+use Rattle.sfm_slope.proofs.Scaled.{small_from_abs}
 use Rattle.sfm_slope.proofs.tree.+branch.Goals as goal
 
 -- half of two or more is less than all, and not nothing
@@ -19,6 +20,9 @@ half_less n two =
 behind : (found : List Breakpoint) (k : ℕ) → k ≤ length found → take (length found - k) (drop k found) ≡ drop k found
 behind found k le = let l = length-drop k found in take_all (length found - k) (drop k found) (omega (arith, l))
 
+pub stage_over-requires-clause-small : goal.stage_over-requires-clause-small
+stage_over-requires-clause-small g t c = small_from_abs (10 ^ 25) c.args.at.graph.bases (c.are_small.ensures.0 c.if-not-are_small.false)
+
 pub branch-search-requires : goal.branch-search-requires
 branch-search-requires g t c = λ κs lives.
     let found = c.args.found.now in
@@ -26,7 +30,7 @@ branch-search-requires g t c = λ κs lives.
     let P = IsInRange c.args.sizes.now in
     let half = half_less (length found) c.if-found-lt2.false in
     let l = length-take-le k found (omega (arith, half)) in
-    (omega (arith, half, l), (lives.0, (lives.1, (c.requires.sizes, (c.requires.search, (All-take P k found c.requires.ranges, (standing_over c.in_ok-next.ensures (take k found) (λ Q all. All-take Q k found all), c.requires.before)))))))
+    (omega (arith, half, l), (lives.0, (lives.1, (c.requires.sizes, (c.requires.search, (All-take P k found c.requires.ranges, (standing_over c.in_ok-again.ensures (take k found) (λ Q all. All-take Q k found all), c.requires.before)))))))
 
 pub branch-search-requires-2 : goal.branch-search-requires-2
 branch-search-requires-2 g t c = λ κs lives.
@@ -37,7 +41,7 @@ branch-search-requires-2 g t c = λ κs lives.
     let half = half_less (length found) c.if-found-lt2.false in
     let same = behind found k (omega (arith, half)) in
     let l = length-drop k found in
-    rw same (omega (arith, half, l), (lives.0, (lives.1, (c.requires.sizes, (f.search, (All-drop P k found c.requires.ranges, (standing_over c.in_ok-next.ensures (drop k found) (λ Q all. All-drop Q k found all), f.bases)))))))
+    rw same (omega (arith, half, l), (lives.0, (lives.1, (c.requires.sizes, (f.search, (All-drop P k found c.requires.ranges, (standing_over c.in_ok-stage_over.ensures (drop k found) (λ Q all. All-drop Q k found all), f.bases)))))))
 
 pub returns-clause-marks : goal.returns-clause-marks
 returns-clause-marks g t c =

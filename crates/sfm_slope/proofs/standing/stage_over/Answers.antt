@@ -3,12 +3,11 @@ use Rattle.std.proofs.lemmas.Int.{ints, to_z-of_z}
 use Rattle.std.proofs.lemmas.List.{length-map}
 use mir.Syntax.{w128}
 use Rattle.sfm_spec.specs.Families.{meanings, sized_shift}
-use Rattle.sfm_exchange.proofs.ClaimedGraphs.{whole_claimed}
 use Rattle.sfm_sizes.proofs.Sized.{sized-small}
 use Rattle.sfm_slope.proofs.Reached.{floor_below, ordered, reached_more}
-use Rattle.sfm_slope.proofs.standing.stage_from.Given as given
-use Rattle.sfm_slope.proofs.standing.stage_from.Goals as goal
-use Rattle.sfm_slope.proofs.standing.stage_from.Goals.{After-deref-2}
+use Rattle.sfm_slope.proofs.standing.stage_over.Given as given
+use Rattle.sfm_slope.proofs.standing.stage_over.Goals as goal
+use Rattle.sfm_slope.proofs.standing.stage_over.Goals.{After-deref-2}
 
 -- the shifts of the whole numbers around the breakpoints
 low_is : (g : given.Over) (c : After-deref-2 g) → c.deref.result.now ≡ sized_shift c.args.sizes.now c.floor_of.result
@@ -30,8 +29,7 @@ long g c = ap length (low_is g c) ∙ length-map c.args.sizes.now _
 
 pub run_stage-requires-clause-graph : goal.run_stage-requires-clause-graph
 run_stage-requires-clause-graph g c =
-    let h = c.requires.standing.claimed in
-    rw (long g (goal.at.run_stage-requires-clause-graph g c).After-deref-2) (whole_claimed (record { bounded = h.bounded; factor = h.factor; exact = c.in_ok-graph.ensures.graph }))
+    rw (long g (goal.at.run_stage-requires-clause-graph g c).After-deref-2) c.requires.standing.claimed
 
 pub run_stage-requires-clause-order : goal.run_stage-requires-clause-order
 run_stage-requires-clause-order g c =
@@ -58,13 +56,13 @@ returns g c =
     let before = c.args.at.now in
     let s = c.requires.standing in
     let e = c.in_ok-walks.ensures in
-    let served = rw (low_is g at, high_is g at, c.in_ok-graph.ensures.bases, c.in_ok-bases.ensures) at e.served in
+    let served = rw (low_is g at, high_is g at) at e.served in
     let few = c.requires.few in
     record {
       claimed = rw (long g at) at e.graph;
       small = e.small;
-      begins = c.in_ok-firsts.ensures ∙ s.begins;
+      begins = s.begins;
       few = omega (arith, few, e.few);
-      reached = rw c.in_ok-firsts.ensures (reached_more sizes c.requires.sizes.positive (meanings t.places t.value_of c.args.terms.now) before.walks c.in_ok-walks.walks before.firsts before.graph.bases c.run_stage.new.graph.bases
+      reached = (reached_more sizes c.requires.sizes.positive (meanings t.places t.value_of c.args.terms.now) before.walks c.in_ok-walks.walks before.firsts before.graph.bases c.run_stage.new.graph.bases
           c.args.found.now c.floor_of.result c.ceiling_of.result s.reached served c.floor_of.ensures.low c.ceiling_of.ensures.high);
     }
