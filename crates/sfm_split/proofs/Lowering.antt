@@ -1,20 +1,20 @@
 -- Amounts lowered cell by cell, and what they then leave.
-use Rattle.std.proofs.Common.{◌≡◌, ℕ, zero, suc, ◌+◌, ◌<◌, ◌≤◌, ◌^◌, List, [], ◌∷◌, length, set, ℤ, pos, ◌+ℤ◌, ◌-ℤ◌, ◌≤ℤ◌, ◌<ℤ◌, refl, sym, ap, ◌∙◌, arith, FitsSigned, ⊎_elim, replicate, length-set, get_or-set_other, get_or-set_same}
+use Rattle.std.proofs.Common.{◌≡◌, ℕ, zero, suc, ◌+◌, ◌<◌, ◌≤◌, ◌^◌, List, [], ◌∷◌, length, set, ℤ, pos, ◌+ℤ◌, ◌-ℤ◌, ◌≤ℤ◌, ◌<ℤ◌, refl, sym, ap, ◌∙◌, arith, ⊎_elim, length-set, get_or-set_other, get_or-set_same}
 use Rattle.std.specs.List.{All}
 use Rattle.std.proofs.lemmas.Int.{ints, by_lt_z}
 use Rattle.std.proofs.lemmas.Bool.{cases_eq}
-use Rattle.std.proofs.lemmas.List.{length-replicate}
-use Rattle.std.proofs.lemmas.List.Elements.{All-get_or, All-from_get_or}
-use mir.Syntax.{w128}
+use Rattle.std.proofs.lemmas.List.{get_or_default, same_lists}
+use Rattle.std.proofs.lemmas.List.Elements.{All-get_or, All-set}
 use Rattle.sfm_split.specs.Splits.{sum_at, amount_at, IsAmount, IsCapacity}
-use Rattle.sfm_split.specs.Cells.{label_at, AreCells, IsPart, IsMet}
-use Rattle.sfm_split.specs.Search.{AreLeft}
-use Rattle.sfm_split.specs.Lowers.{IsShifted, IsCharge, AreSmall, AreCharged, AreLowered, AreMended}
+use Rattle.sfm_split.specs.Cells.{label_at, AreCells, IsPart}
+use Rattle.sfm_split.specs.Search.{AreLeft, ListsBelow, ListsLacking}
+use Rattle.sfm_split.specs.Pours.{IsPouring, AreWithin}
+use Rattle.sfm_split.specs.Lowers.{IsCharge, AreSmall, AreCharged, AreLowered, IsStanding, MayHold, MayAsk}
 use Rattle.sfm_split.specs.Sides.{of_side}
 use Rattle.sfm_split.specs.declared.lower.Side.{Side}
 use Rattle.sfm_split.specs.declared.lower.Side.TheVariants.{Demands, Slots}
 use Rattle.sfm_split.proofs.Amounts.{AreAmounts, sum_at-set, sum_at-low, sum_at-holds, only-same, only-other}
-use Rattle.sfm_split.proofs.Outcomes.{nothing-at}
+use Rattle.sfm_split.proofs.Fills.{left_low}
 use Rattle.sfm_split.proofs.Leaving.{left_taken}
 use Rattle.sfm_split.proofs.Pours.{amounts_set, pouring_begun}
 
@@ -133,6 +133,12 @@ module _ (whos slots : List ℕ) (y lacks rooms : List ℤ) where
       rooms_rise = λ s. at_raised rooms (label_at slots e) s a low;
     }
 
+  -- at other places of either side nothing is given back
+  pub others_stay : (e : ℕ) (a : ℤ) (side : Side) (j : ℕ) → (j ≡ label_at (of_side side whos slots) e → ⊥)
+      → amount_at (of_side side (set lacks (label_at whos e) (amount_at lacks (label_at whos e) +ℤ a)) (set rooms (label_at slots e) (amount_at rooms (label_at slots e) +ℤ a))) j ≡ amount_at (of_side side lacks rooms) j
+  others_stay e a Demands j ne = get_or-set_other lacks (label_at whos e) j (amount_at lacks (label_at whos e) +ℤ a) (pos 0) ne
+  others_stay e a Slots j ne = get_or-set_other rooms (label_at slots e) j (amount_at rooms (label_at slots e) +ℤ a) (pos 0) ne
+
   module _ (w : AreCharged whos slots y lacks rooms) where
     pub charged_cells : AreCells (length lacks) (length rooms) whos slots
     charged_cells = rw (w.charge.lacks_are.places, w.charge.rooms_are.places) w.cells
@@ -216,123 +222,283 @@ charge_part demands capacities whos slots y lacks rooms h few fits = record {
   within = λ s lt. let p = h.rooms_are.places in let l = fits s (omega (arith, lt, p)) in let r = h.rooms_are.each s lt in omega (arith, ints, l, r);
 }
 
-pub mended_all : (whos slots : List ℕ) (y lacks rooms z lacks' rooms' z'' lacks'' rooms'' : List ℤ) → AreLowered whos slots y lacks rooms z lacks' rooms' → AreLowered whos slots z lacks' rooms' z'' lacks'' rooms''
-    → ((i : ℕ) → i < length lacks' → pos 0 ≤ℤ amount_at lacks' i) → ((s : ℕ) → s < length rooms'' → pos 0 ≤ℤ amount_at rooms'' s) → AreMended whos slots y lacks rooms z'' lacks'' rooms''
-mended_all whos slots y lacks rooms z lacks' rooms' z'' lacks'' rooms'' f g few fits = record {
-  each = λ demands capacities cells h.
-      let h1 = f.each demands capacities cells h in
-      let h2 = g.each demands capacities cells h1 in
-      let p = h1.lacks_are.places in
-      let q = h2.lacks_are.places in
-      let part = charge_part demands capacities whos slots z'' lacks'' rooms'' h2 (λ i lt. let l = few i (omega (arith, lt, p, q)) in let u = g.lacks_rise i in omega (arith, ints, l, u)) fits in
-      pouring_begun demands capacities whos slots z'' lacks'' rooms'' part h2.lacks_are h2.rooms_are;
-}
+-- ---- other totals in place of those that amounts are within
 
--- ---- the beginning: what other totals leave
-
--- where demands are met, nothing is left of them
-pub met_left : (demands capacities : List ℤ) (whos slots : List ℕ) (y : List ℤ) → IsPart demands capacities whos slots y → IsMet demands whos y → AreLeft demands whos y (replicate (length demands) (pos 0))
-met_left demands capacities whos slots y part met = record {
-  places = length-replicate (length demands) (pos 0);
-  each = λ i lt. let z = nothing-at (length demands) i in let p = part.got i lt in let m = met i lt in omega (arith, ints, z, p, m);
-}
-
-pub shifted : (totals before : List ℤ) (labels : List ℕ) (y left after : List ℤ) → length totals ≡ length left → AreLeft before labels y left → IsShifted totals before left after → AreLeft totals labels y after
-shifted totals before labels y left after places h m = record {
-  places = m.places ∙ sym places;
-  each = λ k lt.
-      let p = h.places in
-      let lk : k < length left = omega (arith, lt, places) in
-      let v = m.each k lk in
-      let r = h.each k (omega (arith, lk, p)) in
-      omega (arith, ints, v, r);
-}
-
-pub shifted_small : (totals before left after : List ℤ) → length totals ≡ length left → length before ≡ length left → All IsAmount totals → All IsAmount before → All IsAmount left → IsShifted totals before left after → AreSmall after
-shifted_small totals before left after places same amounts amounts_before low m k lt =
-    let p = m.places in
-    let lk : k < length left = omega (arith, lt, p) in
-    let v = m.each k lk in
-    let t = (All-get_or IsAmount totals k (pos 0) (omega (arith, lk, places)) amounts).low in
-    let b = (All-get_or IsAmount before k (pos 0) (omega (arith, lk, same)) amounts_before).high in
-    let l = (All-get_or IsAmount left k (pos 0) lk low).low in
-    omega (arith, ints, v, t, b, l)
-
--- capacities are amounts
-pub capacities_amounts : (capacities : List ℤ) → All IsCapacity capacities → All IsAmount capacities
-capacities_amounts capacities bounded = All-from_get_or IsAmount capacities (pos 0) (λ s lt. let b = All-get_or IsCapacity capacities s (pos 0) lt bounded in let l = b.low in let h = b.high in record { low = l; high = omega (arith, ints, h) })
-
--- and so is what slots have left
-pub rooms_amounts : (capacities : List ℤ) (slots : List ℕ) (y rooms : List ℤ) → All IsCapacity capacities → AreAmounts y → AreLeft capacities slots y rooms → ((s : ℕ) → s < length capacities → sum_at s slots y ≤ℤ amount_at capacities s) → All IsAmount rooms
-rooms_amounts capacities slots y rooms bounded amounts h within = All-from_get_or IsAmount rooms (pos 0) (λ s lt.
-    let p = h.places in
-    let ls : s < length capacities = omega (arith, lt, p) in
-    let r = h.each s ls in
-    let w = within s ls in
-    let g = sum_at-low s slots y amounts in
-    let b = (All-get_or IsCapacity capacities s (pos 0) ls bounded).high in
-    record { low = omega (arith, ints, r, w); high = omega (arith, ints, r, g, b) })
-
--- the next place can be changed: the change of a total fits, and so does what is left with it
-pub shift_fits : (totals before left : List ℤ) (k : ℕ) (x : ℤ) → length before ≡ length left → length totals ≡ length left → All IsAmount left → All IsAmount totals → All IsAmount before → k < length left → x ≡ amount_at left k
-    → FitsSigned w128 (amount_at totals k -ℤ amount_at before k) × FitsSigned w128 (x +ℤ (amount_at totals k -ℤ amount_at before k))
-shift_fits totals before left k x same places low amounts amounts_before lt is =
-    let t = All-get_or IsAmount totals k (pos 0) (omega (arith, lt, places)) amounts in
-    let b = All-get_or IsAmount before k (pos 0) (omega (arith, lt, same)) amounts_before in
-    let l = All-get_or IsAmount left k (pos 0) lt low in
-    let tl = t.low in
-    let th = t.high in
-    let bl = b.low in
-    let bh = b.high in
-    let ll = l.low in
-    let lh = l.high in
-    (omega (arith, ints, tl, th, bl, bh), omega (arith, ints, tl, th, bl, bh, ll, lh, is))
-
--- what totals have besides others, at the first k places, and the totals themselves from there on
-pub record IsMoreTo (totals before after : List ℤ) (k : ℕ) : Type 0 where
-  pub places : length after ≡ length totals
-  pub done : (i : ℕ) → i < k → amount_at after i ≡ (amount_at totals i -ℤ amount_at before i)
-  pub rest : (i : ℕ) → k ≤ i → amount_at after i ≡ amount_at totals i
-
-pub more_none : (totals before : List ℤ) → IsMoreTo totals before totals 0
-more_none totals before = record { places = refl; done = λ i lt. absurd (omega (arith, lt)); rest = λ i le. refl }
-
-pub more_put : (totals before after : List ℤ) (k : ℕ) (v : ℤ) → k < length totals → v ≡ (amount_at totals k -ℤ amount_at before k) → IsMoreTo totals before after k → IsMoreTo totals before (set after k v) (k + 1)
-more_put totals before after k v lt is h =
+-- a total changes, and what is left of it changes as much
+pub left_turned : (totals : List ℤ) (labels : List ℕ) (y left : List ℤ) (k : ℕ) (more : ℤ) → k < length totals → AreLeft totals labels y left → AreLeft (set totals k (amount_at totals k +ℤ more)) labels y (set left k (amount_at left k +ℤ more))
+left_turned totals labels y left k more lt h =
+    let lt' = length-set totals k (amount_at totals k +ℤ more) in
     let p = h.places in
     record {
-      places = length-set after k v ∙ h.places;
-      done = λ i less. ⊎_elim
-          (λ (q : i ≡ k). rw q (get_or-set_same after k v (pos 0) (omega (arith, lt, p)) ∙ is))
-          (λ ne. get_or-set_other after k i v (pos 0) ne ∙ h.done i (omega (arith, less, ne)))
+      places = length-set left k (amount_at left k +ℤ more) ∙ (h.places ∙ sym lt');
+      each = λ i li.
+          let v = h.each i (omega (arith, li, lt')) in
+          ⊎_elim
+          (λ (q : i ≡ k).
+          let t = get_or-set_same totals k (amount_at totals k +ℤ more) (pos 0) lt in
+          let l = get_or-set_same left k (amount_at left k +ℤ more) (pos 0) (omega (arith, lt, p)) in
+          let v' = rw q at v in
+          rw q (omega (arith, ints, t, l, v')))
+          (λ ne.
+          let t = get_or-set_other totals k i (amount_at totals k +ℤ more) (pos 0) ne in
+          let l = get_or-set_other left k i (amount_at left k +ℤ more) (pos 0) ne in
+          omega (arith, ints, t, l, v))
           (cases_eq i k);
-      rest = λ i le. get_or-set_other after k i v (pos 0) (λ q. absurd (omega (arith, le, q))) ∙ h.rest i (omega (arith, le));
     }
 
-pub more_all : (totals before after : List ℤ) (k : ℕ) → length totals ≤ k → IsMoreTo totals before after k → IsShifted totals before (replicate (length totals) (pos 0)) after
-more_all totals before after k past h = record {
-  places = h.places ∙ sym (length-replicate (length totals) (pos 0));
-  each = λ i lt. let l = length-replicate (length totals) (pos 0) in let z = nothing-at (length totals) i in let e = h.done i (omega (arith, lt, l, past)) in omega (arith, ints, z, e);
+-- of what is left, none below nothing, one changes by no more than a demand can ask for
+pub turned_small : (left : List ℤ) (k : ℕ) (more : ℤ) → k < length left → ((i : ℕ) → i < length left → pos 0 ≤ℤ amount_at left i) → pos 0 ≤ℤ (more +ℤ pos (10 ^ 32)) → AreSmall (set left k (amount_at left k +ℤ more))
+turned_small left k more lt low least i li =
+    let p = length-set left k (amount_at left k +ℤ more) in
+    let li' : i < length left = omega (arith, li, p) in
+    ⊎_elim
+    (λ (q : i ≡ k). let e = get_or-set_same left k (amount_at left k +ℤ more) (pos 0) lt in let l = low k lt in rw q (omega (arith, ints, e, l, least)))
+    (λ ne. let e = get_or-set_other left k i (amount_at left k +ℤ more) (pos 0) ne in let l = low i li' in omega (arith, ints, e, l))
+    (cases_eq i k)
+
+-- what rises from there, and is not below nothing at the place of the change, is so nowhere
+turned_low : (left after : List ℤ) (k : ℕ) (more : ℤ) → length after ≡ length left → ((i : ℕ) → i < length left → pos 0 ≤ℤ amount_at left i) → ((i : ℕ) → amount_at (set left k (amount_at left k +ℤ more)) i ≤ℤ amount_at after i) → pos 0 ≤ℤ amount_at after k
+    → (i : ℕ) → i < length after → pos 0 ≤ℤ amount_at after i
+turned_low left after k more same low rise here i lt = ⊎_elim
+    (λ (q : i ≡ k). rw q here)
+    (λ ne. let e = get_or-set_other left k i (amount_at left k +ℤ more) (pos 0) ne in let l = low i (omega (arith, lt, same)) in let r = rise i in omega (arith, ints, e, l, r))
+    (cases_eq i k)
+
+-- amounts that stand leave no less than nothing
+module _ (demands capacities : List ℤ) (whos slots : List ℕ) (y lacks rooms : List ℤ) (h : IsStanding demands capacities whos slots y lacks rooms) where
+  pub standing_within : AreWithin whos slots y lacks rooms
+  standing_within = record { demands = demands; capacities = capacities; cells = h.cells; bounded = h.bounded; part = h.part; lacks_are = h.lacks_are; rooms_are = h.rooms_are }
+
+  pub standing_lacks : (i : ℕ) → i < length lacks → pos 0 ≤ℤ amount_at lacks i
+  standing_lacks = left_low demands whos y lacks h.lacks_are h.part.got
+
+  pub standing_rooms : (s : ℕ) → s < length rooms → pos 0 ≤ℤ amount_at rooms s
+  standing_rooms = left_low capacities slots y rooms h.rooms_are h.part.within
+
+  pub standing_pouring : IsPouring demands capacities whos slots y y lacks rooms
+  standing_pouring = pouring_begun demands capacities whos slots y lacks rooms h.part h.lacks_are h.rooms_are
+
+-- amounts that were lowered until nothing is too much stand
+lowered_stands : (demands capacities : List ℤ) (whos slots : List ℕ) (y lacks rooms : List ℤ) → AreCells (length demands) (length capacities) whos slots → All IsAmount demands → All IsCapacity capacities → IsCharge demands capacities whos slots y lacks rooms
+    → ((i : ℕ) → i < length lacks → pos 0 ≤ℤ amount_at lacks i) → ((s : ℕ) → s < length rooms → pos 0 ≤ℤ amount_at rooms s) → IsStanding demands capacities whos slots y lacks rooms
+lowered_stands demands capacities whos slots y lacks rooms cells asked bounded h few fits = record {
+  cells = cells;
+  asked = asked;
+  bounded = bounded;
+  part = charge_part demands capacities whos slots y lacks rooms h few fits;
+  lacks_are = h.lacks_are;
+  rooms_are = h.rooms_are;
 }
 
--- the first k places are changed
-pub record IsShiftedTo (totals before left after : List ℤ) (k : ℕ) : Type 0 where
-  pub places : length after ≡ length left
-  pub done : (i : ℕ) → i < k → amount_at after i ≡ (amount_at left i +ℤ (amount_at totals i -ℤ amount_at before i))
-  pub rest : (i : ℕ) → k ≤ i → amount_at after i ≡ amount_at left i
+-- a slot is to hold so much more, or less
+module _ (demands capacities : List ℤ) (whos slots : List ℕ) (y lacks rooms : List ℤ) (s : ℕ) (more : ℤ) (h : MayHold demands capacities whos slots y lacks rooms s more) where
+  abbrev held : List ℤ
+  held = set capacities s (amount_at capacities s +ℤ more)
 
-pub shift_more : (totals before left after : List ℤ) (k : ℕ) (v : ℤ) → k < length left → v ≡ (amount_at after k +ℤ (amount_at totals k -ℤ amount_at before k)) → IsShiftedTo totals before left after k → IsShiftedTo totals before left (set after k v) (k + 1)
-shift_more totals before left after k v lt is h =
+  abbrev rooms' : List ℤ
+  rooms' = set rooms s (amount_at rooms s +ℤ more)
+
+  held_cells : AreCells (length demands) (length held) whos slots
+  held_cells = rw (length-set capacities s (amount_at capacities s +ℤ more)) h.stands.cells
+
+  held_bounded : All IsCapacity held
+  held_bounded = All-set IsCapacity capacities s (amount_at capacities s +ℤ more) h.after h.stands.bounded
+
+  pub hold_place : s < length rooms
+  hold_place = let p = h.stands.rooms_are.places in let lt = h.place in omega (arith, lt, p)
+
+  hold_least : pos 0 ≤ℤ (more +ℤ pos (10 ^ 32))
+  hold_least =
+      let a = h.after.low in
+      let b = (All-get_or IsCapacity capacities s (pos 0) h.place h.stands.bounded).high in
+      omega (arith, ints, a, b)
+
+  -- the change fits
+  pub hold_low : pos 0 ≤ℤ (amount_at rooms s +ℤ more +ℤ pos (10 ^ 32))
+  hold_low = let l = standing_rooms demands capacities whos slots y lacks rooms h.stands s hold_place in let m = hold_least in omega (arith, ints, l, m)
+
+  pub hold_high : (amount_at rooms s +ℤ more) ≤ℤ pos (10 ^ 32)
+  hold_high =
+      let r = h.stands.rooms_are.each s h.place in
+      let g = sum_at-low s slots y h.stands.part.amounts in
+      let a = h.after.high in
+      omega (arith, ints, r, g, a)
+
+  hold_charge : IsCharge demands held whos slots y lacks rooms'
+  hold_charge = record { cells = h.stands.part.cells; amounts = h.stands.part.amounts; lacks_are = h.stands.lacks_are; rooms_are = left_turned capacities slots y rooms s more h.place h.stands.rooms_are }
+
+  pub hold_charged : AreCharged whos slots y lacks rooms'
+  hold_charged = record {
+    demands = demands;
+    capacities = held;
+    cells = held_cells;
+    asked = h.stands.asked;
+    bounded = held_bounded;
+    charge = hold_charge;
+    lacks_small = λ i lt. let l = standing_lacks demands capacities whos slots y lacks rooms h.stands i lt in omega (arith, ints, l);
+    rooms_small = turned_small rooms s more hold_place (standing_rooms demands capacities whos slots y lacks rooms h.stands) hold_least;
+  }
+
+  pub hold_stands : (z lacks'' rooms'' : List ℤ) → AreLowered whos slots y lacks rooms' z lacks'' rooms'' → pos 0 ≤ℤ amount_at rooms'' s → IsStanding demands held whos slots z lacks'' rooms''
+  hold_stands z lacks'' rooms'' r here =
+      let p = lowered_lacks whos slots y lacks rooms' hold_charged z lacks'' rooms'' r in
+      let q = lowered_rooms whos slots y lacks rooms' hold_charged z lacks'' rooms'' r ∙ length-set rooms s (amount_at rooms s +ℤ more) in
+      lowered_stands demands held whos slots z lacks'' rooms'' held_cells h.stands.asked held_bounded (r.each demands held held_cells hold_charge)
+      (λ i lt. let l = standing_lacks demands capacities whos slots y lacks rooms h.stands i (omega (arith, lt, p)) in let u = r.lacks_rise i in omega (arith, ints, l, u))
+      (turned_low rooms rooms'' s more q (standing_rooms demands capacities whos slots y lacks rooms h.stands) r.rooms_rise here)
+
+-- a demand is to ask for so much more, or less
+module _ (demands capacities : List ℤ) (whos slots : List ℕ) (y lacks rooms : List ℤ) (i : ℕ) (more : ℤ) (h : MayAsk demands capacities whos slots y lacks rooms i more) where
+  abbrev asked : List ℤ
+  asked = set demands i (amount_at demands i +ℤ more)
+
+  abbrev lacks' : List ℤ
+  lacks' = set lacks i (amount_at lacks i +ℤ more)
+
+  asked_cells : AreCells (length asked) (length capacities) whos slots
+  asked_cells = rw (length-set demands i (amount_at demands i +ℤ more)) h.stands.cells
+
+  asked_amounts : All IsAmount asked
+  asked_amounts = All-set IsAmount demands i (amount_at demands i +ℤ more) h.after h.stands.asked
+
+  pub ask_place : i < length lacks
+  ask_place = let p = h.stands.lacks_are.places in let lt = h.place in omega (arith, lt, p)
+
+  ask_least : pos 0 ≤ℤ (more +ℤ pos (10 ^ 32))
+  ask_least =
+      let a = h.after.low in
+      let b = (All-get_or IsAmount demands i (pos 0) h.place h.stands.asked).high in
+      omega (arith, ints, a, b)
+
+  -- the change fits
+  pub ask_low : pos 0 ≤ℤ (amount_at lacks i +ℤ more +ℤ pos (10 ^ 32))
+  ask_low = let l = standing_lacks demands capacities whos slots y lacks rooms h.stands i ask_place in let m = ask_least in omega (arith, ints, l, m)
+
+  pub ask_high : (amount_at lacks i +ℤ more) ≤ℤ pos (10 ^ 32)
+  ask_high =
+      let r = h.stands.lacks_are.each i h.place in
+      let g = sum_at-low i whos y h.stands.part.amounts in
+      let a = h.after.high in
+      omega (arith, ints, r, g, a)
+
+  ask_charge : IsCharge asked capacities whos slots y lacks' rooms
+  ask_charge = record { cells = h.stands.part.cells; amounts = h.stands.part.amounts; lacks_are = left_turned demands whos y lacks i more h.place h.stands.lacks_are; rooms_are = h.stands.rooms_are }
+
+  pub ask_charged : AreCharged whos slots y lacks' rooms
+  ask_charged = record {
+    demands = asked;
+    capacities = capacities;
+    cells = asked_cells;
+    asked = asked_amounts;
+    bounded = h.stands.bounded;
+    charge = ask_charge;
+    lacks_small = turned_small lacks i more ask_place (standing_lacks demands capacities whos slots y lacks rooms h.stands) ask_least;
+    rooms_small = λ s lt. let l = standing_rooms demands capacities whos slots y lacks rooms h.stands s lt in omega (arith, ints, l);
+  }
+
+  pub ask_stands : (z lacks'' rooms'' : List ℤ) → AreLowered whos slots y lacks' rooms z lacks'' rooms'' → pos 0 ≤ℤ amount_at lacks'' i → IsStanding asked capacities whos slots z lacks'' rooms''
+  ask_stands z lacks'' rooms'' r here =
+      let p = lowered_lacks whos slots y lacks' rooms ask_charged z lacks'' rooms'' r ∙ length-set lacks i (amount_at lacks i +ℤ more) in
+      let q = lowered_rooms whos slots y lacks' rooms ask_charged z lacks'' rooms'' r in
+      lowered_stands asked capacities whos slots z lacks'' rooms'' asked_cells asked_amounts h.stands.bounded (r.each asked capacities asked_cells ask_charge)
+      (turned_low lacks lacks'' i more p (standing_lacks demands capacities whos slots y lacks rooms h.stands) r.lacks_rise here)
+      (λ s lt. let l = standing_rooms demands capacities whos slots y lacks rooms h.stands s (omega (arith, lt, q)) in let u = r.rooms_rise s in omega (arith, ints, l, u))
+
+-- totals of which the first k are new, and the others as before
+pub record AreTurned (totals before now : List ℤ) (k : ℕ) : Type 0 where
+  pub places : length now ≡ length totals
+  pub done : (i : ℕ) → i < k → amount_at now i ≡ amount_at totals i
+  pub rest : (i : ℕ) → k ≤ i → amount_at now i ≡ amount_at before i
+
+pub turned_none : (totals before : List ℤ) → length before ≡ length totals → AreTurned totals before before 0
+turned_none totals before same = record { places = same; done = λ i lt. absurd (omega (arith, lt)); rest = λ i le. refl }
+
+-- the next one changes by so much
+pub turned_more : (totals before now : List ℤ) (k : ℕ) (more : ℤ) → k < length totals → more ≡ (amount_at totals k -ℤ amount_at before k) → AreTurned totals before now k → AreTurned totals before (set now k (amount_at now k +ℤ more)) (k + 1)
+turned_more totals before now k more lt is h =
     let p = h.places in
-    let r = h.rest k (omega arith) in
+    let v = amount_at now k +ℤ more in
     record {
-      places = length-set after k v ∙ h.places;
+      places = length-set now k v ∙ h.places;
       done = λ i less. ⊎_elim
-          (λ (q : i ≡ k). let s = get_or-set_same after k v (pos 0) (omega (arith, lt, p)) in rw q (omega (arith, ints, s, is, r)))
-          (λ ne. let o = get_or-set_other after k i v (pos 0) ne in let d = h.done i (omega (arith, less, ne)) in omega (arith, ints, o, d))
+          (λ (q : i ≡ k). let s = get_or-set_same now k v (pos 0) (omega (arith, lt, p)) in let r = h.rest k (omega arith) in rw q (omega (arith, ints, s, r, is)))
+          (λ ne. get_or-set_other now k i v (pos 0) ne ∙ h.done i (omega (arith, less, ne)))
           (cases_eq i k);
-      rest = λ i le. let o = get_or-set_other after k i v (pos 0) (λ q. absurd (omega (arith, le, q))) in let d = h.rest i (omega (arith, le)) in omega (arith, ints, o, d);
+      rest = λ i le. get_or-set_other now k i v (pos 0) (λ q. absurd (omega (arith, le, q))) ∙ h.rest i (omega (arith, le));
     }
 
-pub shift_all : (totals before left after : List ℤ) (k : ℕ) → length left ≤ k → IsShiftedTo totals before left after k → IsShifted totals before left after
-shift_all totals before left after k past h = record { places = h.places; each = λ i lt. h.done i (omega (arith, lt, past)) }
+pub turned_all : (totals before now : List ℤ) (k : ℕ) → length totals ≤ k → AreTurned totals before now k → now ≡ totals
+turned_all totals before now k past h =
+    let p = h.places in
+    same_lists now totals h.places (λ i d lt. get_or_default now i d (pos 0) lt ∙ (h.done i (omega (arith, lt, p, past)) ∙ get_or_default totals i (pos 0) d (omega (arith, lt, p))))
+
+-- amounts within demands, and within capacities of which the first k are new
+pub record AreHeldTo (demands totals before : List ℤ) (whos slots : List ℕ) (y lacks rooms : List ℤ) (k : ℕ) : Type 0 where
+  pub now : List ℤ
+  pub turned : AreTurned totals before now k
+  pub stands : IsStanding demands now whos slots y lacks rooms
+
+-- amounts within capacities, and within demands of which the first k are new
+pub record AreAskedTo (capacities totals before : List ℤ) (whos slots : List ℕ) (y lacks rooms : List ℤ) (k : ℕ) : Type 0 where
+  pub now : List ℤ
+  pub turned : AreTurned totals before now k
+  pub stands : IsStanding now capacities whos slots y lacks rooms
+
+module _ (demands totals before : List ℤ) (whos slots : List ℕ) (y lacks rooms : List ℤ) where
+  pub held_begun : length before ≡ length totals → IsStanding demands before whos slots y lacks rooms → AreHeldTo demands totals before whos slots y lacks rooms 0
+  held_begun same h = record { now = before; turned = turned_none totals before same; stands = h }
+
+  pub held_all : (k : ℕ) → length totals ≤ k → AreHeldTo demands totals before whos slots y lacks rooms k → IsStanding demands totals whos slots y lacks rooms
+  held_all k past w = rw (turned_all totals before w.now k past w.turned) at w.stands
+
+  module _ (k : ℕ) (more : ℤ) (lt : k < length totals) (is : more ≡ (amount_at totals k -ℤ amount_at before k)) (w : AreHeldTo demands totals before whos slots y lacks rooms k) where
+    pub held_may : All IsCapacity totals → MayHold demands w.now whos slots y lacks rooms k more
+    held_may bounded =
+        let t = w.turned.places in
+        let l = lt in
+        let e = is in
+        let r = w.turned.rest k (omega arith) in
+        let b = All-get_or IsCapacity totals k (pos 0) lt bounded in
+        let low = b.low in
+        let high = b.high in
+        record { stands = w.stands; place = omega (arith, t, l); after = record { low = omega (arith, ints, e, r, low); high = omega (arith, ints, e, r, high) } }
+
+    pub held_more : (z lacks'' rooms'' : List ℤ) → IsStanding demands (set w.now k (amount_at w.now k +ℤ more)) whos slots z lacks'' rooms'' → AreHeldTo demands totals before whos slots z lacks'' rooms'' (k + 1)
+    held_more z lacks'' rooms'' h = record { now = set w.now k (amount_at w.now k +ℤ more); turned = turned_more totals before w.now k more lt is w.turned; stands = h }
+
+module _ (capacities totals before : List ℤ) (whos slots : List ℕ) (y lacks rooms : List ℤ) where
+  pub asked_begun : length before ≡ length totals → IsStanding before capacities whos slots y lacks rooms → AreAskedTo capacities totals before whos slots y lacks rooms 0
+  asked_begun same h = record { now = before; turned = turned_none totals before same; stands = h }
+
+  pub asked_all : (k : ℕ) → length totals ≤ k → AreAskedTo capacities totals before whos slots y lacks rooms k → IsStanding totals capacities whos slots y lacks rooms
+  asked_all k past w = rw (turned_all totals before w.now k past w.turned) at w.stands
+
+  pub asked_places : (k : ℕ) → AreAskedTo capacities totals before whos slots y lacks rooms k → length lacks ≡ length totals
+  asked_places k w = w.stands.lacks_are.places ∙ w.turned.places
+
+  module _ (k : ℕ) (more : ℤ) (lt : k < length totals) (is : more ≡ (amount_at totals k -ℤ amount_at before k)) (w : AreAskedTo capacities totals before whos slots y lacks rooms k) where
+    pub asked_may : All IsAmount totals → MayAsk w.now capacities whos slots y lacks rooms k more
+    asked_may amounts =
+        let t = w.turned.places in
+        let l = lt in
+        let e = is in
+        let r = w.turned.rest k (omega arith) in
+        let b = All-get_or IsAmount totals k (pos 0) lt amounts in
+        let low = b.low in
+        let high = b.high in
+        record { stands = w.stands; place = omega (arith, t, l); after = record { low = omega (arith, ints, e, r, low); high = omega (arith, ints, e, r, high) } }
+
+    pub asked_more : (z lacks'' rooms'' : List ℤ) → IsStanding (set w.now k (amount_at w.now k +ℤ more)) capacities whos slots z lacks'' rooms'' → AreAskedTo capacities totals before whos slots z lacks'' rooms'' (k + 1)
+    asked_more z lacks'' rooms'' h = record { now = set w.now k (amount_at w.now k +ℤ more); turned = turned_more totals before w.now k more lt is w.turned; stands = h }
+
+-- the demands below k that lack something stay listed where only what k lacks changes
+pub listed_stays : (k : ℕ) (lacks after : List ℤ) (list : List ℕ) → ((j : ℕ) → (j ≡ k → ⊥) → amount_at after j ≡ amount_at lacks j) → ListsBelow k lacks list → ListsBelow k after list
+listed_stays k lacks after list same h = record {
+  rising = h.rising;
+  below = h.below;
+  all = λ i lt some. let e = same i (λ q. absurd (omega (arith, lt, q))) in h.all i lt (omega (arith, ints, e, some));
+}
+
+-- once all are passed
+pub listed_whole : (k : ℕ) (lacks : List ℤ) (list : List ℕ) → k ≡ length lacks → ListsBelow k lacks list → ListsLacking lacks list
+listed_whole k lacks list all h = rw all at h

@@ -1,15 +1,9 @@
--- Amounts that may be too much for demands and capacities, and how they are lowered.
-use Rattle.std.specs.Prelude.{◌≡◌, ℕ, ◌<◌, ◌^◌, List, Bool, length, Option, MatchOption, ℤ, pos, ◌+ℤ◌, ◌-ℤ◌, ◌≤ℤ◌}
+-- Amounts that may be too much for demands and capacities, how they are lowered, and what other totals they are brought within.
+use Rattle.std.specs.Prelude.{◌≡◌, ℕ, ◌<◌, ◌^◌, List, length, ℤ, pos, ◌+ℤ◌, ◌≤ℤ◌}
 use Rattle.std.specs.List.{All}
 use Rattle.sfm_split.specs.Splits.{amount_at, IsAmount, IsCapacity}
-use Rattle.sfm_split.specs.Cells.{AreCells, IsPart, IsMet}
-use Rattle.sfm_split.specs.Search.{AreLeft, IsLacking}
-use Rattle.sfm_split.specs.Pours.{IsPouring}
-
--- what is left of each total changes by as much as the total
-pub record IsShifted (totals before left after : List ℤ) : Type 0 where
-  pub places : length after ≡ length left
-  pub each : (k : ℕ) → k < length left → amount_at after k ≡ (amount_at left k +ℤ (amount_at totals k -ℤ amount_at before k))
+use Rattle.sfm_split.specs.Cells.{AreCells, IsPart}
+use Rattle.sfm_split.specs.Search.{AreLeft}
 
 -- amounts on cells, not negative, and what they leave of demands and of capacities: below nothing where they are too much
 pub record IsCharge (demands capacities : List ℤ) (whos slots : List ℕ) (y lacks rooms : List ℤ) : Type 0 where
@@ -40,16 +34,23 @@ pub record AreLowered (whos slots : List ℕ) (y lacks rooms z lacks_after rooms
   pub lacks_rise : (i : ℕ) → amount_at lacks i ≤ℤ amount_at lacks_after i
   pub rooms_rise : (s : ℕ) → amount_at rooms s ≤ℤ amount_at rooms_after s
 
--- amounts are lowered until nothing is too much, whatever the demands and capacities are
-pub record AreMended (whos slots : List ℕ) (y lacks rooms z lacks_after rooms_after : List ℤ) : Type 0 where
-  pub each : (demands capacities : List ℤ) → AreCells (length demands) (length capacities) whos slots → IsCharge demands capacities whos slots y lacks rooms → IsPouring demands capacities whos slots z z lacks_after rooms_after
+-- amounts on cells within demands and capacities, which are within their own bounds, and what they leave of both
+pub record IsStanding (demands capacities : List ℤ) (whos slots : List ℕ) (y lacks rooms : List ℤ) : Type 0 where
+  pub cells : AreCells (length demands) (length capacities) whos slots
+  pub asked : All IsAmount demands
+  pub bounded : All IsCapacity capacities
+  pub part : IsPart demands capacities whos slots y
+  pub lacks_are : AreLeft demands whos y lacks
+  pub rooms_are : AreLeft capacities slots y rooms
 
--- amounts are lowered and raised: then no demand lacks anything; or some do, and the set is closed and has all of these
-pub record IsSettled (demands capacities : List ℤ) (whos slots : List ℕ) (z lacks rooms : List ℤ) (told : Option (List Bool)) : Type 0 where
-  pub part : IsPart demands capacities whos slots z
-  pub lacks_are : AreLeft demands whos z lacks
-  pub rooms_are : AreLeft capacities slots z rooms
-  pub told_of : MatchOption told (IsMet demands whos z) (IsLacking demands capacities whos slots z)
+-- a slot is to hold so much more, or less
+pub record MayHold (demands capacities : List ℤ) (whos slots : List ℕ) (y lacks rooms : List ℤ) (s : ℕ) (more : ℤ) : Type 0 where
+  pub stands : IsStanding demands capacities whos slots y lacks rooms
+  pub place : s < length capacities
+  pub after : IsCapacity (amount_at capacities s +ℤ more)
 
-pub record AreSettled (whos slots : List ℕ) (y lacks rooms z lacks_after rooms_after : List ℤ) (told : Option (List Bool)) : Type 0 where
-  pub each : (demands capacities : List ℤ) → AreCells (length demands) (length capacities) whos slots → IsCharge demands capacities whos slots y lacks rooms → IsSettled demands capacities whos slots z lacks_after rooms_after told
+-- a demand is to ask for so much more, or less
+pub record MayAsk (demands capacities : List ℤ) (whos slots : List ℕ) (y lacks rooms : List ℤ) (i : ℕ) (more : ℤ) : Type 0 where
+  pub stands : IsStanding demands capacities whos slots y lacks rooms
+  pub place : i < length demands
+  pub after : IsAmount (amount_at demands i +ℤ more)

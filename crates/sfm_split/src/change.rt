@@ -1,12 +1,13 @@
 // Amounts for other demands, found beside a split that stands, in memory of their own: either those of the split itself, of which
 // nothing is lacking, or amounts by which other demands over the same lists are met.
 ghost use Rattle.std.specs.{Prelude.{◌≡◌, length, OnOk, MatchResult}, List.{All}};
-ghost use Rattle.sfm_split.specs.{Splits.{IsAmount, IsCapacity, AreDemands}, Cells.{AreMet}, Search.{AreLeft}, Lowers.{IsCharge, AreSmall}, Ends.{IsAssignEnd}};
+ghost use Rattle.sfm_split.specs.{Splits.{IsAmount, IsCapacity, AreDemands}, Cells.{AreMet}, Search.{AreLeft, ListsLacking}, Lowers.{IsStanding}, Ends.{IsAssignEnd}};
 
+use crate::cells::Cells;
 use crate::demand::Demand;
 use crate::left::Lefts;
-use crate::lower::{shift, write_more};
-use crate::splitting::{AssignEnd, Shares, settle};
+use crate::lower::{turn_demands, turn_slots};
+use crate::splitting::{AssignEnd, Shares, search_all};
 use crate::work::{Work, copy_list, write_zeros};
 use sfm_base::Memory;
 use std::alloc::Global;
@@ -18,32 +19,28 @@ pub struct Aim<'a> {
     pub capacities: &'a [i128],
 }
 
-/// Writes what amounts on cells leave of other demands and capacities, by what their slots have left of those that they meet: below
-/// nothing where it is too much.
-fn charge(
-    left: &mut Lefts,
+/// Puts other demands and capacities in place of those that amounts are within, lowers what is too much then, and lists the demands
+/// that lack something.
+fn turn(
+    cells: &Cells,
     demand: &Demand,
-    shares: &Shares,
-    rooms: &[i128],
     aim: &Aim,
+    left: &mut Lefts,
+    y: &mut [i128],
 ) -> Result<(), Memory>
     requires sized { length aim.now.demands.now ≡ length demand.now.demands }
     requires slots { length aim.now.capacities.now ≡ length demand.now.capacities }
     requires amounts { All IsAmount aim.now.demands.now }
     requires bounded { All IsCapacity aim.now.capacities.now }
-    requires met { AreMet demand.now shares.now.cells.whos.items shares.now.cells.slots.items
-        shares.now.y.items }
-    requires left { AreLeft demand.now.capacities shares.now.cells.slots.items shares.now.y.items
-        rooms.now }
-    ensures charge { OnOk result (IsCharge aim.now.demands.now aim.now.capacities.now
-        shares.now.cells.whos.items shares.now.cells.slots.items shares.now.y.items
-        left.new.lacks.items left.new.rooms.items) }
-    ensures lacks { OnOk result (AreSmall left.new.lacks.items) }
-    ensures rooms { OnOk result (AreSmall left.new.rooms.items) }
+    requires stands { IsStanding demand.now.demands demand.now.capacities cells.now.whos.items
+        cells.now.slots.items y.old left.old.lacks.items left.old.rooms.items }
+    ensures stands { OnOk result (IsStanding aim.now.demands.now aim.now.capacities.now
+        cells.now.whos.items cells.now.slots.items y.new left.new.lacks.items
+        left.new.rooms.items) }
+    ensures listed { OnOk result (ListsLacking left.new.lacks.items left.new.lacking.items) }
 {
-    write_more(&mut left.lacks, aim.demands, demand.demands())?;
-    copy_list(&mut left.rooms, rooms)?;
-    shift(&mut left.rooms, aim.capacities, demand.capacities());
+    turn_slots(cells, aim.capacities, demand.capacities(), left, y);
+    turn_demands(cells, aim.demands, demand.demands(), left, y)?;
     Ok(())
 }
 
@@ -84,9 +81,10 @@ pub fn find_amounts(
     ensures rooms { OnOk result (AreLeft aim.now.capacities.now shares.now.cells.slots.items
         work.new.y.items work.new.left.rooms.items) }
 {
-    charge(&mut work.left, demand, shares, rooms, aim)?;
-    copy_list(&mut work.y, &shares.y)?;
-    let told = settle(
+    let _sound = demand.demands();
+    begin(work, demand, shares, rooms)?;
+    turn(&shares.cells, demand, aim, &mut work.left, &mut work.y)?;
+    let told = search_all(
         alloc,
         &shares.cells,
         &mut work.rest,

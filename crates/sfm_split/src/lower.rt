@@ -1,47 +1,16 @@
-// Amounts that are too much for other demands and capacities, lowered until they are not. What these leave is told from what was
-// left before; it is below nothing where amounts are too much. There the chain of the demand, or of the slot, is gone along, and
-// the amounts on its cells are lowered and given back to their demands and slots: first for all demands, then in the same way
-// for all slots. At the end of a chain nothing stands on it, and no demand or capacity is negative, so nothing is too much
-// there. What is left only rises, so what was mended stays so.
-ghost use Rattle.std.specs.{Prelude.{◌≡◌, ℕ, ◌<◌, ◌^◌, length, replicate, pos, ◌+ℤ◌, ◌-ℤ◌, ◌≤ℤ◌, OnOk}, List.{All}};
-ghost use Rattle.sfm_split.specs.{Splits.{amount_at, IsAmount}, Cells.{label_at}, Chains.{AreChains}, Lowers.{IsShifted, AreCharged, AreLowered, AreMended}, Sides.{of_side}, declared.lower.Side.{Side}};
+// Amounts that meet demands, brought within other demands and other capacities. Where a total changes, what is left of it changes as
+// much; it is below nothing where the amounts are too much then. There the chain of the demand, or of the slot, is gone along, and
+// the amounts on its cells are lowered and given back to their demands and slots. At the end of a chain nothing stands on it, and
+// no demand or capacity is negative, so nothing is too much there. What is left only rises, so what was mended stays so. First
+// all slots are gone through and then all demands, so that what a demand lacks in the end is known once it was passed.
+ghost use Rattle.std.specs.{Prelude.{◌≡◌, ◌≢◌, ℕ, ◌<◌, ◌^◌, List, length, slice_set, ℤ, pos, ◌+ℤ◌, ◌-ℤ◌, ◌≤ℤ◌, OnOk}, List.{All}};
+ghost use Rattle.sfm_split.specs.{Splits.{amount_at, IsAmount, IsCapacity}, Cells.{label_at}, Chains.{AreChains}, Search.{ListsLacking}, Lowers.{AreCharged, AreLowered, IsStanding, MayHold, MayAsk}, Sides.{of_side}, declared.lower.Side.{Side}};
 
 use crate::augment::{put, take};
 use crate::cells::Cells;
 use crate::chains::Chains;
 use crate::left::Lefts;
-use crate::work::copy_list;
 use sfm_base::Memory;
-
-/// What totals leave, from what others left of the same amounts.
-pub(crate) fn shift(left: &mut Vec<i128>, totals: &[i128], before: &[i128])
-    requires same { length before.now ≡ length left.old.items }
-    requires places { length totals.now ≡ length left.old.items }
-    requires low { All IsAmount left.old.items }
-    requires amounts { All IsAmount totals.now }
-    requires amounts_before { All IsAmount before.now }
-    ensures { IsShifted totals.now before.now left.old.items left.new.items }
-{
-    for k in 0..totals.len() {
-        let more = totals[k] - before[k];
-        left[k] += more;
-    }
-}
-
-/// Writes what totals have besides others.
-pub(crate) fn write_more(to: &mut Vec<i128>, totals: &[i128], before: &[i128]) -> Result<(), Memory>
-    requires same { length before.now ≡ length totals.now }
-    requires amounts { All IsAmount totals.now }
-    requires amounts_before { All IsAmount before.now }
-    ensures { OnOk result (IsShifted totals.now before.now
-        (replicate (length totals.now) (pos 0)) to.new.items) }
-{
-    copy_list(to, totals)?;
-    for k in 0..before.len() {
-        to[k] -= before[k];
-    }
-    Ok(())
-}
 
 /// Lowers the amount on a cell, by no more than is too much, and gives it back to its demand and its slot.
 fn lower_on(cells: &Cells, e: usize, over: i128, left: &mut Lefts, y: &mut [i128])
@@ -55,6 +24,11 @@ fn lower_on(cells: &Cells, e: usize, over: i128, left: &mut Lefts, y: &mut [i128
         → let k = label_at (of_side side cells.now.whos.items cells.now.slots.items) e in amount_at
         (of_side side left.new.lacks.items left.new.rooms.items) k
         ≡ (amount_at (of_side side left.old.lacks.items left.old.rooms.items) k +ℤ over) }
+    ensures others { (side : Side) (j : ℕ) → j
+        ≢ label_at (of_side side cells.now.whos.items cells.now.slots.items) e
+        → amount_at (of_side side left.new.lacks.items left.new.rooms.items) j
+        ≡ amount_at (of_side side left.old.lacks.items left.old.rooms.items) j }
+    ensures same { left.new.lacking.items ≡ left.old.lacking.items }
 {
     let i = cells.whos[e];
     let s = cells.slots[e];
@@ -114,6 +88,10 @@ fn lower_along(cells: &Cells, side: Side, k: usize, left: &mut Lefts, y: &mut [i
     ensures lowered { AreLowered cells.now.whos.items cells.now.slots.items y.old
         left.old.lacks.items left.old.rooms.items y.new left.new.lacks.items left.new.rooms.items }
     ensures mended { pos 0 ≤ℤ amount_at (of_side side left.new.lacks.items left.new.rooms.items) k }
+    ensures others { (j : ℕ) → j ≢ k → amount_at
+        (of_side side left.new.lacks.items left.new.rooms.items) j
+        ≡ amount_at (of_side side left.old.lacks.items left.old.rooms.items) j }
+    ensures same { left.new.lacking.items ≡ left.old.lacking.items }
 {
     let chains = side.chains(cells);
     let mut at = chains.head(k);
@@ -127,30 +105,92 @@ fn lower_along(cells: &Cells, side: Side, k: usize, left: &mut Lefts, y: &mut [i
     }
 }
 
-/// Lowers amounts until no demand, or no slot, gets more than its total.
-fn lower_side(cells: &Cells, side: Side, left: &mut Lefts, y: &mut [i128])
-    requires charged { AreCharged cells.now.whos.items cells.now.slots.items y.old
-        left.old.lacks.items left.old.rooms.items }
-    ensures lowered { AreLowered cells.now.whos.items cells.now.slots.items y.old
-        left.old.lacks.items left.old.rooms.items y.new left.new.lacks.items left.new.rooms.items }
-    ensures mended { (k : ℕ) → k < length (of_side side left.new.lacks.items left.new.rooms.items)
-        → pos 0 ≤ℤ amount_at (of_side side left.new.lacks.items left.new.rooms.items) k }
+/// Changes what a slot may hold, by an amount of either sign, and lowers the amounts on it until it holds no more.
+fn turn_slot(cells: &Cells, s: usize, more: i128, left: &mut Lefts, y: &mut [i128])
+    requires { (d : List ℤ) × (c : List ℤ) × MayHold d c cells.now.whos.items cells.now.slots.items
+        y.old left.old.lacks.items left.old.rooms.items s more }
+    ensures { (d c : List ℤ) → MayHold d c cells.now.whos.items cells.now.slots.items y.old
+        left.old.lacks.items left.old.rooms.items s more
+        → IsStanding d (slice_set c s (amount_at c s +ℤ more)) cells.now.whos.items
+        cells.now.slots.items y.new left.new.lacks.items left.new.rooms.items }
 {
-    for k in 0..side.of(left).len() {
-        let totals = side.of(left);
-        if totals[k] < 0 {
-            lower_along(cells, side, k, left, y);
-        }
+    if more == 0 {
+        return;
+    }
+    put(&mut left.rooms, s, more);
+    lower_along(cells, Side::Slots, s, left, y);
+}
+
+/// Changes what a demand asks for, by an amount of either sign, and lowers its amounts until it gets no more.
+fn turn_demand(cells: &Cells, i: usize, more: i128, left: &mut Lefts, y: &mut [i128])
+    requires { (d : List ℤ) × (c : List ℤ) × MayAsk d c cells.now.whos.items cells.now.slots.items
+        y.old left.old.lacks.items left.old.rooms.items i more }
+    ensures stands { (d c : List ℤ) → MayAsk d c cells.now.whos.items cells.now.slots.items y.old
+        left.old.lacks.items left.old.rooms.items i more
+        → IsStanding (slice_set d i (amount_at d i +ℤ more)) c cells.now.whos.items
+        cells.now.slots.items y.new left.new.lacks.items left.new.rooms.items }
+    ensures others { (j : ℕ) → j ≢ i → amount_at left.new.lacks.items j
+        ≡ amount_at left.old.lacks.items j }
+    ensures same { left.new.lacking.items ≡ left.old.lacking.items }
+{
+    if more == 0 {
+        return;
+    }
+    put(&mut left.lacks, i, more);
+    lower_along(cells, Side::Demands, i, left, y);
+}
+
+/// Puts other capacities in place of those that amounts are within, and lowers the amounts on slots that then hold too much.
+pub(crate) fn turn_slots(
+    cells: &Cells,
+    capacities: &[i128],
+    before: &[i128],
+    left: &mut Lefts,
+    y: &mut [i128],
+)
+    requires same { length before.now ≡ length capacities.now }
+    requires bounded { All IsCapacity capacities.now }
+    requires bounded_before { All IsCapacity before.now }
+    requires stands { (d : List ℤ) × IsStanding d before.now cells.now.whos.items
+        cells.now.slots.items y.old left.old.lacks.items left.old.rooms.items }
+    ensures { (d : List ℤ) → IsStanding d before.now cells.now.whos.items cells.now.slots.items
+        y.old left.old.lacks.items left.old.rooms.items
+        → IsStanding d capacities.now cells.now.whos.items cells.now.slots.items y.new
+        left.new.lacks.items left.new.rooms.items }
+{
+    for s in 0..capacities.len() {
+        let more = capacities[s] - before[s];
+        turn_slot(cells, s, more, left, y);
     }
 }
 
-/// Lowers amounts until no demand gets more than it asks for, and no slot more than its capacity.
-pub(crate) fn lower_all(cells: &Cells, left: &mut Lefts, y: &mut [i128])
-    requires charged { AreCharged cells.now.whos.items cells.now.slots.items y.old
-        left.old.lacks.items left.old.rooms.items }
-    ensures { AreMended cells.now.whos.items cells.now.slots.items y.old left.old.lacks.items
-        left.old.rooms.items y.new left.new.lacks.items left.new.rooms.items }
+/// Puts other demands in place of those that amounts are within, and lowers the amounts of demands that then get too much. Lists
+/// those that lack something.
+pub(crate) fn turn_demands(
+    cells: &Cells,
+    demands: &[i128],
+    before: &[i128],
+    left: &mut Lefts,
+    y: &mut [i128],
+) -> Result<(), Memory>
+    requires same { length before.now ≡ length demands.now }
+    requires asked { All IsAmount demands.now }
+    requires asked_before { All IsAmount before.now }
+    requires stands { (c : List ℤ) × IsStanding before.now c cells.now.whos.items
+        cells.now.slots.items y.old left.old.lacks.items left.old.rooms.items }
+    ensures stands { OnOk result ((c : List ℤ) → IsStanding before.now c cells.now.whos.items
+        cells.now.slots.items y.old left.old.lacks.items left.old.rooms.items
+        → IsStanding demands.now c cells.now.whos.items cells.now.slots.items y.new
+        left.new.lacks.items left.new.rooms.items) }
+    ensures listed { OnOk result (ListsLacking left.new.lacks.items left.new.lacking.items) }
 {
-    lower_side(cells, Side::Demands, left, y);
-    lower_side(cells, Side::Slots, left, y);
+    left.lacking.clear();
+    for i in 0..demands.len() {
+        let more = demands[i] - before[i];
+        turn_demand(cells, i, more, left, y);
+        if left.lacks[i] > 0 {
+            left.lacking.push(i)?;
+        }
+    }
+    Ok(())
 }

@@ -1,13 +1,12 @@
 // A split of all demands, or a set of them that asks for more than its slots have. The amounts on the cells are raised as far as
 // they go; where a demand still lacks something, those that were found ask for too much.
 ghost use Rattle.std.specs.Prelude.{◌≡◌, IfOk, MatchResult};
-ghost use Rattle.sfm_split.specs.{Splits.{AreDemands, IsAssignment}, Cells.{joined, owners, IsPart, AreMet}, Search.{ListsLacking}, Pours.{AreWithin, AreRaised, IsToldOf}, Lowers.{AreCharged, AreSettled}, Ends.{IsAssignEnd}};
+ghost use Rattle.sfm_split.specs.{Splits.{AreDemands, IsAssignment}, Cells.{joined, owners, IsPart, AreMet}, Search.{ListsLacking}, Pours.{AreWithin, AreRaised, IsToldOf}, Ends.{IsAssignEnd}};
 
 use crate::cells::Cells;
 use crate::demand::Demand;
 use crate::fill::fill_from;
 use crate::left::{Lefts, lefts_of};
-use crate::lower::lower_all;
 use crate::nodes::found_set;
 use crate::pour::pour;
 use crate::split::Split;
@@ -61,7 +60,7 @@ impl Shares {
 
 /// Raises amounts by searches until each demand gets what it asks for; or, where one still lacks something, tells a closed set with
 /// all that do. What is left is kept with them.
-fn search_all(
+pub(crate) fn search_all(
     alloc: Global,
     cells: &Cells,
     rest: &mut Rest,
@@ -103,26 +102,6 @@ fn raise_all(
         left.new.lacks.items left.new.rooms.items) }
 {
     pour(cells, left, y);
-    left.list_lacking()?;
-    let set = search_all(alloc, cells, rest, left, y)?;
-    Ok(set)
-}
-
-/// Lowers the amounts that are too much, then raises amounts by searches until each demand gets what it asks for; or tells a
-/// closed set with all that still lack something.
-pub(crate) fn settle(
-    alloc: Global,
-    cells: &Cells,
-    rest: &mut Rest,
-    left: &mut Lefts,
-    y: &mut [i128],
-) -> Result<Option<Set>, Memory>
-    requires charged { AreCharged cells.now.whos.items cells.now.slots.items y.old
-        left.old.lacks.items left.old.rooms.items }
-    ensures { IfOk result (AreSettled cells.now.whos.items cells.now.slots.items y.old
-        left.old.lacks.items left.old.rooms.items y.new left.new.lacks.items left.new.rooms.items) }
-{
-    lower_all(cells, left, y);
     left.list_lacking()?;
     let set = search_all(alloc, cells, rest, left, y)?;
     Ok(set)

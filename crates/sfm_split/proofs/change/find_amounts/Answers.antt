@@ -1,66 +1,100 @@
-use Rattle.std.proofs.Common.{length, drop, ap, sym, ◌∙◌}
+use Rattle.std.proofs.Common.{◌≡◌, ◌++◌, ℕ, List, ℤ, length, take, drop, ap, sym, ◌∙◌}
 use Rattle.sfm_split.specs.Cells.{joined, owners}
 use Rattle.sfm_split.specs.Search.{IsLacking}
-use Rattle.sfm_split.specs.Lowers.{IsSettled}
+use Rattle.sfm_split.specs.Pours.{IsPouring}
 use Rattle.sfm_split.proofs.Searches.{written}
 use Rattle.sfm_split.proofs.Outcomes.{cells_for, lacking_end}
-use Rattle.sfm_split.proofs.change.find_amounts.Goals.{In_ok-told}
+use Rattle.sfm_split.proofs.Lowering.{standing_within, standing_pouring}
+use Rattle.sfm_split.proofs.change.find_amounts.Goals.{In_ok-turn, In_ok-told}
 use Rattle.sfm_split.proofs.change.find_amounts.Goals as goal
 
--- the amounts are lowered and raised
-settled : (c : In_ok-told) → IsSettled c.args.aim.now.demands.now c.args.aim.now.capacities.now c.args.shares.now.cells.whos.items c.args.shares.now.cells.slots.items c.settle.new.y c.settle.new.left.lacks.items c.settle.new.left.rooms.items c.in_ok-told.told
-settled c =
-    let ey = c.deref_mut.ensures.value ∙ (c.in_ok-copy_list.ensures ∙ c.deref.ensures.value) in
-    (rw ey at c.in_ok-told.ensures).each c.args.aim.now.demands.now c.args.aim.now.capacities.now (rw (c.requires.met.in_order, c.requires.met.in_lists) (cells_for _ c.requires.sound)) c.in_ok-charge.ensures.charge
+-- there are as many amounts as before
+wide : (c : In_ok-turn) → length c.turn.new.y ≡ c.begin.new.work.y.len
+wide c = c.turn.auto.y ∙ (ap length c.deref_mut.ensures.value ∙ sym c.begin.new.work.y.ok.0)
 
-pub charge-requires-clause-amounts : goal.charge-requires-clause-amounts
-charge-requires-clause-amounts c = c.requires.sound.amounts
-
-pub charge-requires-clause-bounded : goal.charge-requires-clause-bounded
-charge-requires-clause-bounded c = c.requires.sound.bounded
-
-pub settle-requires : goal.settle-requires
-settle-requires c =
-    let left = c.in_ok-charge.ensures in
-    let ey = c.deref_mut.ensures.value ∙ (c.in_ok-copy_list.ensures ∙ c.deref.ensures.value) in
+pub turn-requires : goal.turn-requires
+turn-requires c =
+    let r = c.requires in
+    let sound = c.demands-sound.ensures.sound in
+    let told = c.in_ok-begin.ensures in
     record {
-      charged = rw ey (record {
-        demands = c.args.aim.now.demands.now;
-        capacities = c.args.aim.now.capacities.now;
-        cells = rw (c.requires.met.in_order, c.requires.met.in_lists) (cells_for _ c.requires.sound);
-        asked = c.requires.sound.amounts;
-        bounded = c.requires.sound.bounded;
-        charge = left.charge;
-        lacks_small = left.lacks;
-        rooms_small = left.rooms;
+      sized = r.sized;
+      slots = r.slots;
+      amounts = r.sound.amounts;
+      bounded = r.sound.bounded;
+      stands = rw (c.deref_mut.ensures.value ∙ told.amounts) (record {
+        cells = rw (r.met.in_order, r.met.in_lists) (cells_for c.args.demand.now sound);
+        asked = sound.amounts;
+        bounded = sound.bounded;
+        part = r.met.part;
+        lacks_are = told.lacks;
+        rooms_are = rw told.rooms r.left;
       });
     }
 
+pub search_all-requires : goal.search_all-requires
+search_all-requires c =
+    let aim = c.args.aim.now in
+    let cells = c.args.shares.now.cells in
+    let left = c.turn.new.left in
+    let told = c.in_ok-turn.ensures in
+    let y = c.begin.new.work.y in
+    let q = written c.turn.new.y (drop (length c.turn.new.y) y.items) y.len (wide (goal.at.search_all-requires c).In_ok-turn) in
+    record { within = rw (c.deref_mut-2.ensures.value ∙ q) (standing_within aim.demands.now aim.capacities.now cells.whos.items cells.slots.items c.turn.new.y left.lacks.items left.rooms.items told.stands); listed = told.listed }
+
+-- the amounts where the searches begin
+abbrev begun : List ℤ → List ℤ → ℕ → List ℤ
+begun z y n = take n (z ++ drop (length z) y)
+
+-- the amounts are raised as far as they go
+raised : (c : In_ok-told) → length c.turn.new.y ≡ c.begin.new.work.y.len
+    → IsPouring c.args.aim.now.demands.now c.args.aim.now.capacities.now c.args.shares.now.cells.whos.items c.args.shares.now.cells.slots.items c.turn.new.y c.search_all.new.y c.search_all.new.left.lacks.items c.search_all.new.left.rooms.items
+raised c long =
+    let aim = c.args.aim.now in
+    let cells = c.args.shares.now.cells in
+    let left = c.turn.new.left in
+    let told = c.in_ok-turn.ensures.stands in
+    let y = c.begin.new.work.y in
+    let q = c.deref_mut-2.ensures.value ∙ written c.turn.new.y (drop (length c.turn.new.y) y.items) y.len long in
+    (rw q at c.in_ok-told.ensures.raised).each aim.demands.now aim.capacities.now c.turn.new.y told.cells (standing_pouring aim.demands.now aim.capacities.now cells.whos.items cells.slots.items c.turn.new.y left.lacks.items left.rooms.items told)
+
+-- as many are written back
+back : (c : In_ok-told) → length c.turn.new.y ≡ c.begin.new.work.y.len → length c.search_all.new.y ≡ c.begin.new.work.y.len
+back c long =
+    let y = c.begin.new.work.y in
+    let q = c.deref_mut-2.ensures.value ∙ written c.turn.new.y (drop (length c.turn.new.y) y.items) y.len long in
+    c.search_all.auto.y ∙ (ap length q ∙ long)
+
 pub returns-in-Some-clause-met : goal.returns-in-Some-clause-met
 returns-in-Some-clause-met c =
-    let s = rw c.in-Some.is at (settled (goal.at.returns-in-Some-clause-met c).In_ok-told) in
-    let part = rw (c.requires.met.in_order, c.requires.met.in_lists) at s.part in
-    let lacking : IsLacking c.args.aim.now.demands.now c.args.aim.now.capacities.now (owners 0 c.args.demand.now.lists) (joined c.args.demand.now.lists) c.settle.new.y c.in-Some.set = rw (c.requires.met.in_order, c.requires.met.in_lists) at s.told_of in
-    lacking_end _ c.settle.new.y c.in-Some.set c.requires.sound part lacking
+    let path = goal.at.returns-in-Some-clause-met c in
+    let aim = c.args.aim.now in
+    let p = raised path.In_ok-told (wide path.In_ok-turn) in
+    let end = rw c.in-Some.is at c.in_ok-told.ensures.told in
+    let told = end.each aim.demands.now aim.capacities.now c.turn.new.y c.in_ok-turn.ensures.stands.cells p in
+    let part = rw (c.requires.met.in_order, c.requires.met.in_lists) at p.part in
+    let lacking : IsLacking aim.demands.now aim.capacities.now (owners 0 c.args.demand.now.lists) (joined c.args.demand.now.lists) c.search_all.new.y c.in-Some.set = rw (c.requires.met.in_order, c.requires.met.in_lists) at told in
+    lacking_end _ c.search_all.new.y c.in-Some.set c.requires.sound part lacking
 
 pub returns-clause-met : goal.returns-clause-met
 returns-clause-met c =
-    let y = c.copy_list.new.to in
-    let z = c.settle.new.y in
-    let s = rw c.in_default.is at (settled (goal.at.returns-clause-met c).In_ok-told) in
-    let q = written z (drop (length z) y.items) y.len (c.settle.auto.y ∙ (ap length c.deref_mut.ensures.value ∙ sym y.ok.0)) in
-    record { in_order = c.requires.met.in_order; in_lists = c.requires.met.in_lists; part = rw q s.part; met = rw q s.told_of }
+    let path = goal.at.returns-clause-met c in
+    let aim = c.args.aim.now in
+    let long = wide path.In_ok-turn in
+    let p = raised path.In_ok-told long in
+    let end = rw c.in_default.is at c.in_ok-told.ensures.told in
+    let met = end.each aim.demands.now aim.capacities.now c.turn.new.y c.in_ok-turn.ensures.stands.cells p in
+    let q = written c.search_all.new.y (drop (length c.search_all.new.y) (begun c.turn.new.y c.begin.new.work.y.items c.begin.new.work.y.len)) c.begin.new.work.y.len (back path.In_ok-told long) in
+    record { in_order = c.requires.met.in_order; in_lists = c.requires.met.in_lists; part = rw q p.part; met = rw q met }
 
 pub returns-clause-lacks : goal.returns-clause-lacks
 returns-clause-lacks c =
-    let y = c.copy_list.new.to in
-    let z = c.settle.new.y in
-    let q = written z (drop (length z) y.items) y.len (c.settle.auto.y ∙ (ap length c.deref_mut.ensures.value ∙ sym y.ok.0)) in
-    rw q (settled (goal.at.returns-clause-lacks c).In_ok-told).lacks_are
+    let path = goal.at.returns-clause-lacks c in
+    let long = wide path.In_ok-turn in
+    rw (written c.search_all.new.y (drop (length c.search_all.new.y) (begun c.turn.new.y c.begin.new.work.y.items c.begin.new.work.y.len)) c.begin.new.work.y.len (back path.In_ok-told long)) (raised path.In_ok-told long).lacks_are
 
 pub returns-clause-rooms : goal.returns-clause-rooms
 returns-clause-rooms c =
-    let y = c.copy_list.new.to in
-    let z = c.settle.new.y in
-    let q = written z (drop (length z) y.items) y.len (c.settle.auto.y ∙ (ap length c.deref_mut.ensures.value ∙ sym y.ok.0)) in
-    rw q (settled (goal.at.returns-clause-rooms c).In_ok-told).rooms_are
+    let path = goal.at.returns-clause-rooms c in
+    let long = wide path.In_ok-turn in
+    rw (written c.search_all.new.y (drop (length c.search_all.new.y) (begun c.turn.new.y c.begin.new.work.y.items c.begin.new.work.y.len)) c.begin.new.work.y.len (back path.In_ok-told long)) (raised path.In_ok-told long).rooms_are

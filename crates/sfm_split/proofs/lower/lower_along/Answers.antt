@@ -1,4 +1,4 @@
-use Rattle.std.proofs.Common.{◌<◌, ℕ, length, get_or, ℤ, pos, arith, rules, FitsSigned}
+use Rattle.std.proofs.Common.{◌<◌, ℕ, length, get_or, ℤ, pos, refl, ◌∙◌, arith, rules, FitsSigned}
 use Rattle.std.proofs.lemmas.Int.{ints, by_lt_z, to_z-of_z}
 use mir.Syntax.{w128}
 use Rattle.sfm_split.specs.Sides.{of_side}
@@ -27,6 +27,8 @@ loop-at-init c =
       lowered = lowered_nowhere cells.whos.items cells.slots.items y left.lacks.items left.rooms.items;
       charged = c.requires.charged;
       passed = rw c.head-at.ensures (pass_begun (of_side side cells.whos.items cells.slots.items) chains.heads.items chains.nexts.items c.args.k (IsSpent (of_side side left.lacks.items left.rooms.items) c.args.k y) c.chains-chains.ensures);
+      others = λ j ne. refl;
+      same = refl;
     }
 
 pub excess-over-requires : goal.excess-over-requires
@@ -77,6 +79,8 @@ loop-at-preserved c =
       passed = pass_more c.chains-chains.ensures c.in-Some.is inv.passed Spent c.index-at.ensures
           (λ f h. still_spent whos slots y left.lacks.items left.rooms.items new.y after.lacks.items after.rooms.items told.lowered side k f h)
           (λ less. by_lt_z (pos 0) (get_or new.y c.in-Some.e (pos 0)) (λ some. let t = rw mine at (given (omega (arith, ints, some)) side) in absurd (omega (arith, ints, t, is, less))) (λ none. none));
+      others = λ j ne. told.others side j (λ q. ne (q ∙ mine)) ∙ inv.others j ne;
+      same = told.same ∙ inv.same;
     }
 
 pub returns-clause-mended : goal.returns-clause-mended

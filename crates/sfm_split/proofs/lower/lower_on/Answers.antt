@@ -1,10 +1,10 @@
-use Rattle.std.proofs.Common.{◌≡◌, ℕ, List, get_or, length, drop, ℤ, pos, ◌-ℤ◌, ◌≤ℤ◌, ap, sym, ◌∙◌, arith, rules, FitsSigned}
+use Rattle.std.proofs.Common.{◌≡◌, ℕ, List, get_or, length, drop, ℤ, pos, ◌-ℤ◌, ◌≤ℤ◌, ap, refl, sym, ◌∙◌, arith, rules, FitsSigned}
 use Rattle.std.proofs.lemmas.Int.{ints, clamps, to_z-of_z}
 use Rattle.std.proofs.lemmas.List.{get_or_read}
 use mir.Syntax.{w128}
 use Rattle.sfm_split.specs.Cells.{label_at}
 use Rattle.sfm_split.proofs.Searches.{written}
-use Rattle.sfm_split.proofs.Lowering.{lowered_cell, charged_lacks, charged_rooms, given_back}
+use Rattle.sfm_split.proofs.Lowering.{lowered_cell, charged_lacks, charged_rooms, given_back, others_stay}
 use Rattle.sfm_split.proofs.lower.lower_on.Goals.{After-min-a}
 use Rattle.sfm_split.proofs.lower.lower_on.Goals as goal
 
@@ -130,4 +130,6 @@ returns c =
     rw (ql, qr, ty, tl, tr) (record {
       lowered = lowered_cell whos slots y lacks rooms e a lt h.low h.most;
       given = given_back whos slots y lacks rooms c.requires.charged e a c.args.over lt h.all;
+      others = others_stay whos slots y lacks rooms e a;
+      same = refl;
     })
