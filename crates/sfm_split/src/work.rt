@@ -82,10 +82,14 @@ impl Rest {
     }
 }
 
-/// Writes a list over another.
+/// Writes a list over another: at once where that is as long, as clearing it would go through it.
 pub(crate) fn copy_list(to: &mut Vec<i128>, from: &[i128]) -> Result<(), Memory>
     ensures { OnOk result (to.new.items ≡ from.now) }
 {
+    if to.len() == from.len() {
+        to.copy_from_slice(from);
+        return Ok(());
+    }
     to.clear();
     to.extend_from_slice(from)?;
     Ok(())
@@ -95,7 +99,9 @@ pub(crate) fn copy_list(to: &mut Vec<i128>, from: &[i128]) -> Result<(), Memory>
 pub(crate) fn write_zeros(to: &mut Vec<i128>, like: &[i128]) -> Result<(), Memory>
     ensures { OnOk result (to.new.items ≡ replicate (length like.now) (pos 0)) }
 {
-    copy_list(to, like)?;
+    if to.len() != like.len() {
+        copy_list(to, like)?;
+    }
     to.fill(0);
     Ok(())
 }
