@@ -1,10 +1,11 @@
 -- Amounts lowered cell by cell, and what they then leave.
-use Rattle.std.proofs.Common.{◌≡◌, ℕ, zero, suc, ◌+◌, ◌<◌, ◌≤◌, ◌^◌, List, [], ◌∷◌, length, set, ℤ, pos, ◌+ℤ◌, ◌-ℤ◌, ◌≤ℤ◌, ◌<ℤ◌, refl, sym, ap, ◌∙◌, arith, ⊎_elim, length-set, get_or-set_other, get_or-set_same}
+use Rattle.std.proofs.Common.{◌≡◌, ℕ, zero, suc, ◌+◌, ◌<◌, ◌≤◌, ◌^◌, List, [], ◌∷◌, length, set, ℤ, pos, ◌+ℤ◌, ◌-ℤ◌, ◌≤ℤ◌, ◌<ℤ◌, refl, sym, ap, ◌∙◌, arith, FitsSigned, ⊎_elim, length-set, get_or-set_other, get_or-set_same}
 use Rattle.std.specs.List.{All}
 use Rattle.std.proofs.lemmas.Int.{ints, by_lt_z}
 use Rattle.std.proofs.lemmas.Bool.{cases_eq}
 use Rattle.std.proofs.lemmas.List.{get_or_default, same_lists}
 use Rattle.std.proofs.lemmas.List.Elements.{All-get_or, All-set}
+use mir.Syntax.{w128}
 use Rattle.sfm_split.specs.Splits.{sum_at, amount_at, IsAmount, IsCapacity}
 use Rattle.sfm_split.specs.Cells.{label_at, AreCells, IsPart}
 use Rattle.sfm_split.specs.Search.{AreLeft, ListsBelow, ListsLacking}
@@ -314,6 +315,15 @@ module _ (demands capacities : List ℤ) (whos slots : List ℕ) (y lacks rooms 
       omega (arith, ints, a, b)
 
   -- the change fits
+  pub hold_fits : FitsSigned w128 more
+  hold_fits =
+      let a = h.after.low in
+      let b = h.after.high in
+      let e = All-get_or IsCapacity capacities s (pos 0) h.place h.stands.bounded in
+      let l = e.low in
+      let t = e.high in
+      omega (arith, ints, a, b, l, t)
+
   pub hold_low : pos 0 ≤ℤ (amount_at rooms s +ℤ more +ℤ pos (10 ^ 32))
   hold_low = let l = standing_rooms demands capacities whos slots y lacks rooms h.stands s hold_place in let m = hold_least in omega (arith, ints, l, m)
 
@@ -371,6 +381,15 @@ module _ (demands capacities : List ℤ) (whos slots : List ℕ) (y lacks rooms 
       omega (arith, ints, a, b)
 
   -- the change fits
+  pub ask_fits : FitsSigned w128 more
+  ask_fits =
+      let a = h.after.low in
+      let b = h.after.high in
+      let e = All-get_or IsAmount demands i (pos 0) h.place h.stands.asked in
+      let l = e.low in
+      let t = e.high in
+      omega (arith, ints, a, b, l, t)
+
   pub ask_low : pos 0 ≤ℤ (amount_at lacks i +ℤ more +ℤ pos (10 ^ 32))
   ask_low = let l = standing_lacks demands capacities whos slots y lacks rooms h.stands i ask_place in let m = ask_least in omega (arith, ints, l, m)
 

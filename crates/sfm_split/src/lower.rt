@@ -105,38 +105,38 @@ fn lower_along(cells: &Cells, side: Side, k: usize, left: &mut Lefts, y: &mut [i
     }
 }
 
-/// Changes what a slot may hold, by an amount of either sign, and lowers the amounts on it until it holds no more.
-fn turn_slot(cells: &Cells, s: usize, more: i128, left: &mut Lefts, y: &mut [i128])
+/// Changes what a slot may hold, from one capacity to another, and lowers the amounts on it until it holds no more.
+fn turn_slot(cells: &Cells, s: usize, after: i128, before: i128, left: &mut Lefts, y: &mut [i128])
     requires { (d : List ℤ) × (c : List ℤ) × MayHold d c cells.now.whos.items cells.now.slots.items
-        y.old left.old.lacks.items left.old.rooms.items s more }
+        y.old left.old.lacks.items left.old.rooms.items s (after -ℤ before) }
     ensures { (d c : List ℤ) → MayHold d c cells.now.whos.items cells.now.slots.items y.old
-        left.old.lacks.items left.old.rooms.items s more
-        → IsStanding d (slice_set c s (amount_at c s +ℤ more)) cells.now.whos.items
+        left.old.lacks.items left.old.rooms.items s (after -ℤ before)
+        → IsStanding d (slice_set c s (amount_at c s +ℤ (after -ℤ before))) cells.now.whos.items
         cells.now.slots.items y.new left.new.lacks.items left.new.rooms.items }
 {
-    if more == 0 {
+    if after == before {
         return;
     }
-    put(&mut left.rooms, s, more);
+    put(&mut left.rooms, s, after - before);
     lower_along(cells, Side::Slots, s, left, y);
 }
 
-/// Changes what a demand asks for, by an amount of either sign, and lowers its amounts until it gets no more.
-fn turn_demand(cells: &Cells, i: usize, more: i128, left: &mut Lefts, y: &mut [i128])
+/// Changes what a demand asks for, from one amount to another, and lowers its amounts until it gets no more.
+fn turn_demand(cells: &Cells, i: usize, after: i128, before: i128, left: &mut Lefts, y: &mut [i128])
     requires { (d : List ℤ) × (c : List ℤ) × MayAsk d c cells.now.whos.items cells.now.slots.items
-        y.old left.old.lacks.items left.old.rooms.items i more }
+        y.old left.old.lacks.items left.old.rooms.items i (after -ℤ before) }
     ensures stands { (d c : List ℤ) → MayAsk d c cells.now.whos.items cells.now.slots.items y.old
-        left.old.lacks.items left.old.rooms.items i more
-        → IsStanding (slice_set d i (amount_at d i +ℤ more)) c cells.now.whos.items
+        left.old.lacks.items left.old.rooms.items i (after -ℤ before)
+        → IsStanding (slice_set d i (amount_at d i +ℤ (after -ℤ before))) c cells.now.whos.items
         cells.now.slots.items y.new left.new.lacks.items left.new.rooms.items }
     ensures others { (j : ℕ) → j ≢ i → amount_at left.new.lacks.items j
         ≡ amount_at left.old.lacks.items j }
     ensures same { left.new.lacking.items ≡ left.old.lacking.items }
 {
-    if more == 0 {
+    if after == before {
         return;
     }
-    put(&mut left.lacks, i, more);
+    put(&mut left.lacks, i, after - before);
     lower_along(cells, Side::Demands, i, left, y);
 }
 
@@ -159,8 +159,7 @@ pub(crate) fn turn_slots(
         left.new.lacks.items left.new.rooms.items }
 {
     for s in 0..capacities.len() {
-        let more = capacities[s] - before[s];
-        turn_slot(cells, s, more, left, y);
+        turn_slot(cells, s, capacities[s], before[s], left, y);
     }
 }
 
@@ -186,8 +185,7 @@ pub(crate) fn turn_demands(
 {
     left.lacking.clear();
     for i in 0..demands.len() {
-        let more = demands[i] - before[i];
-        turn_demand(cells, i, more, left, y);
+        turn_demand(cells, i, demands[i], before[i], left, y);
         if left.lacks[i] > 0 {
             left.lacking.push(i)?;
         }

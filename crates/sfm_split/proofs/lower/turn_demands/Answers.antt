@@ -44,15 +44,6 @@ asked_on c lt fd k h =
     let may = asked_may k demands before whos slots y left.lacks.items left.rooms.items i (t -ℤ b) lt refl w c.requires.asked in
     asked_more k demands before whos slots y left.lacks.items left.rooms.items i (t -ℤ b) lt refl w new.y new.left.lacks.items new.left.rooms.items (told w.now k may)
 
-pub overflow_sub-more : goal.overflow_sub-more
-overflow_sub-more c =
-    let t : ℤ = get_or c.args.demands.now c.loop-i.i (pos 0) in
-    let b : ℤ = get_or c.args.before.now c.loop-i.i (pos 0) in
-    let ft : FitsSigned w128 t = search rules in
-    let fb : FitsSigned w128 b = search rules in
-    let fd : FitsSigned w128 (t -ℤ b) = fits (goal.at.overflow_sub-more c).At-loop-i (omega arith) in
-    simp to_z-of_z fd
-
 pub loop-i-init : goal.loop-i-init
 loop-i-init c = record {
   asked = λ k h. asked_begun k c.args.demands.now c.args.before.now c.args.cells.now.whos.items c.args.cells.now.slots.items c.args.y.now c.args.left.now.lacks.items c.args.left.now.rooms.items c.requires.same h;

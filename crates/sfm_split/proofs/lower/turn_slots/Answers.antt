@@ -19,15 +19,6 @@ fits c lt =
     let bh = b.high in
     omega (arith, ints, tl, th, bl, bh)
 
-pub overflow_sub-more : goal.overflow_sub-more
-overflow_sub-more c =
-    let t : ℤ = get_or c.args.capacities.now c.loop-s.s (pos 0) in
-    let b : ℤ = get_or c.args.before.now c.loop-s.s (pos 0) in
-    let ft : FitsSigned w128 t = search rules in
-    let fb : FitsSigned w128 b = search rules in
-    let fd : FitsSigned w128 (t -ℤ b) = fits (goal.at.overflow_sub-more c).At-loop-s (omega arith) in
-    simp to_z-of_z fd
-
 pub loop-s-init : goal.loop-s-init
 loop-s-init c = λ d h. held_begun d c.args.capacities.now c.args.before.now c.args.cells.now.whos.items c.args.cells.now.slots.items c.args.y.now c.args.left.now.lacks.items c.args.left.now.rooms.items c.requires.same h
 
