@@ -10,7 +10,7 @@ use Rattle.sfm_spec.specs.Terms.{SetFunction, times, IsFamily, IsSubmodular, IsB
 use Rattle.sfm_spec.specs.Families.{Meaning, AreTerms, AreBases}
 use Rattle.sfm_spec.specs.Walks.{term_at, base_at}
 use Rattle.sfm_spec.proofs.RowLaw.{least_tight}
-use Rattle.sfm_spec.proofs.Scaled.{times_some, times-add, times-cancel, family-times, submodular-times}
+use Rattle.sfm_spec.proofs.Scaled.{times_some, times-add, times-assoc, times-cancel, family-times, submodular-times}
 use Rattle.sfm_spec.proofs.Walks.{terms-at, bases-at}
 use Rattle.sfm_reach.specs.declared.bits.Bits.{Bits}
 use Rattle.sfm_reach.specs.declared.spots.Spot.{Spot}
@@ -29,59 +29,56 @@ sum_over-times q (true ∷ s) (a ∷ x) = ap (λ z. (q *ℤ a) +ℤ z) (sum_over
 sum_over-times q (false ∷ s) (a ∷ x) =
     ap (λ z. pos 0 +ℤ z) (sum_over-times q s x) ∙ ap (λ z. z +ℤ (q *ℤ sum_over s x)) (sym (*ℤ-zero q)) ∙ sym (times-add q (pos 0) (sum_over s x))
 
-pub one-times : (a : ℤ) → (pos 1 *ℤ a) ≡ a
-one-times a = omega (arith, ints)
-
-module _ (f : SetFunction) (q : ℤ) (low : pos 1 ≤ℤ q) (x : List ℤ) where
+module _ (f : SetFunction) (p q : ℤ) (low : pos 1 ≤ℤ q) (x : List ℤ) where
   -- a set that is tight at a base is so at a multiple of it
-  tight_times : (r : List Bool) → IsTight (times (pos 1) f) x r → IsTight (times q f) (row_times q x) r
+  tight_times : (r : List Bool) → IsTight (times p f) x r → IsTight (times (q *ℤ p) f) (row_times q x) r
   tight_times r h =
-      let (a, fr, e) = times_some (pos 1) (f r) (sum_over r x) h in
-      let same : a ≡ sum_over r x = sym (e ∙ one-times a) in
-      ap (option_map (λ z. q *ℤ z)) fr ∙ ap (λ z. Some (q *ℤ z)) same ∙ ap Some (sym (sum_over-times q r x))
+      let (a, fr, e) = times_some p (f r) (sum_over r x) h in
+      ap (option_map (λ z. (q *ℤ p) *ℤ z)) fr ∙ ap Some (times-assoc q p a ∙ (ap (λ z. q *ℤ z) (sym e) ∙ sym (sum_over-times q r x)))
 
   -- and the other way round
-  tight_back : (r : List Bool) → IsTight (times q f) (row_times q x) r → IsTight (times (pos 1) f) x r
+  tight_back : (r : List Bool) → IsTight (times (q *ℤ p) f) (row_times q x) r → IsTight (times p f) x r
   tight_back r h =
-      let (a, fr, e) = times_some q (f r) (sum_over r (row_times q x)) h in
-      let same : (q *ℤ sum_over r x) ≡ (q *ℤ a) = sym (sum_over-times q r x) ∙ e in
-      let least : sum_over r x ≤ℤ a = times-cancel q (sum_over r x) a low (omega (arith, ints, same)) in
-      let most : a ≤ℤ sum_over r x = times-cancel q a (sum_over r x) low (omega (arith, ints, same)) in
-      let is : a ≡ sum_over r x = omega (arith, ints, least, most) in
-      ap (option_map (λ z. pos 1 *ℤ z)) fr ∙ ap Some (one-times a ∙ is)
+      let (a, fr, e) = times_some (q *ℤ p) (f r) (sum_over r (row_times q x)) h in
+      let same : (q *ℤ sum_over r x) ≡ (q *ℤ (p *ℤ a)) = sym (sum_over-times q r x) ∙ (e ∙ times-assoc q p a) in
+      let least : sum_over r x ≤ℤ (p *ℤ a) = times-cancel q (sum_over r x) (p *ℤ a) low (omega (arith, ints, same)) in
+      let most : (p *ℤ a) ≤ℤ sum_over r x = times-cancel q (p *ℤ a) (sum_over r x) low (omega (arith, ints, same)) in
+      let is : (p *ℤ a) ≡ sum_over r x = omega (arith, ints, least, most) in
+      ap (option_map (λ z. p *ℤ z)) fr ∙ ap Some is
 
-module _ {k : ℕ} {f : SetFunction} (family : IsFamily k f) (law : IsSubmodular k f) (q : ℤ) (low : pos 1 ≤ℤ q) (x : List ℤ) (sized : length x ≡ k) (base : IsBase (times (pos 1) f) x) (after : IsBase (times q f) (row_times q x)) where
+module _ {k : ℕ} {f : SetFunction} (family : IsFamily k f) (law : IsSubmodular k f) (p q : ℤ) (some : pos 1 ≤ℤ p) (low : pos 1 ≤ℤ q) (many : pos 1 ≤ℤ (q *ℤ p)) (x : List ℤ) (sized : length x ≡ k) (base : IsBase (times p f) x)
+    (after : IsBase (times (q *ℤ p) f) (row_times q x)) where
   long : length (row_times q x) ≡ k
   long = length-map x (λ a. q *ℤ a) ∙ sized
 
   -- what depends on what stays
-  pub depends_times : (e w : ℕ) → e < k → w < k → Depends (times (pos 1) f) x e w ↔ Depends (times q f) (row_times q x) e w
+  pub depends_times : (e w : ℕ) → e < k → w < k → Depends (times p f) x e w ↔ Depends (times (q *ℤ p) f) (row_times q x) e w
   depends_times e w ke kw = (
-    (λ d. there.1 (λ r h has. here.0 d r (record { places = h.places ∙ length-map x (λ a. q *ℤ a); tight = tight_back f q low x r h.tight }) has)),
-    (λ d. here.1 (λ r h has. there.0 d r (record { places = h.places ∙ sym (length-map x (λ a. q *ℤ a)); tight = tight_times f q low x r h.tight }) has)),
+    (λ d. there.1 (λ r h has. here.0 d r (record { places = h.places ∙ length-map x (λ a. q *ℤ a); tight = tight_back f p q low x r h.tight }) has)),
+    (λ d. here.1 (λ r h has. there.0 d r (record { places = h.places ∙ sym (length-map x (λ a. q *ℤ a)); tight = tight_times f p q low x r h.tight }) has)),
   ) where
-    here : Depends (times (pos 1) f) x e w ↔ ((r : List Bool) → IsTightSet (times (pos 1) f) x r → Has r e → Has r w)
-    here = least_tight (family-times k (pos 1) f family) (submodular-times k (pos 1) f (omega (arith, ints)) law) sized base e w (rw sized ke) (rw sized kw)
+    here : Depends (times p f) x e w ↔ ((r : List Bool) → IsTightSet (times p f) x r → Has r e → Has r w)
+    here = least_tight (family-times k p f family) (submodular-times k p f (omega (arith, ints, some)) law) sized base e w (rw sized ke) (rw sized kw)
 
-    there : Depends (times q f) (row_times q x) e w ↔ ((r : List Bool) → IsTightSet (times q f) (row_times q x) r → Has r e → Has r w)
-    there = least_tight (family-times k q f family) (submodular-times k q f (omega (arith, ints, low)) law) long after e w (rw long ke) (rw long kw)
+    there : Depends (times (q *ℤ p) f) (row_times q x) e w ↔ ((r : List Bool) → IsTightSet (times (q *ℤ p) f) (row_times q x) r → Has r e → Has r w)
+    there = least_tight (family-times k (q *ℤ p) f family) (submodular-times k (q *ℤ p) f (omega (arith, ints, many)) law) long after e w (rw long ke) (rw long kw)
 
   -- and so does where there is room
-  room_times : (u v : ℕ) → u < k → v < k → v ≢ u → HasRoom (times (pos 1) f) x u v ↔ HasRoom (times q f) (row_times q x) u v
+  room_times : (u v : ℕ) → u < k → v < k → v ≢ u → HasRoom (times p f) x u v ↔ HasRoom (times (q *ℤ p) f) (row_times q x) u v
   room_times u v ku kv ne = (
     (λ room. ⊎_elim (λ same. absurd (ne same)) (λ still. still) ((depends_times u v ku kv).0 (inr room))),
     (λ room. ⊎_elim (λ same. absurd (ne same)) (λ still. still) ((depends_times u v ku kv).1 (inr room))),
   )
 
   -- the rows of a term stay
-  pub row_stays : (places : List ℕ) → length places ≡ k → (u : ℕ) → u < length places → (row : Bits) → IsRow places (times (pos 1) f) x u row → IsRow places (times q f) (row_times q x) u row
+  pub row_stays : (places : List ℕ) → length places ≡ k → (u : ℕ) → u < length places → (row : Bits) → IsRow places (times p f) x u row → IsRow places (times (q *ℤ p) f) (row_times q x) u row
   row_stays places count u lu row h e = (
     (λ one. let (v, lv, ne, room, is) = (h e).0 one in (v, lv, ne, (room_times u v (rw (← count) lu) (rw (← count) lv) ne).0 room, is)),
     (λ (v, lv, ne, room, is). (h e).1 (v, lv, ne, (room_times u v (rw (← count) lu) (rw (← count) lv) ne).1 room, is)),
   )
 
   -- and so do those that are claimed
-  pub claims_stay : (places : List ℕ) → length places ≡ k → (claimed : Bits) (table : List Bits) → AreClaims places (times (pos 1) f) x claimed table → AreClaims places (times q f) (row_times q x) claimed table
+  pub claims_stay : (places : List ℕ) → length places ≡ k → (claimed : Bits) (table : List Bits) → AreClaims places (times p f) x claimed table → AreClaims places (times (q *ℤ p) f) (row_times q x) claimed table
   claims_stay places count claimed table h = record {
     claims = λ u lu. record {
       has = λ v lv ne room. (h.claims u lu).has v lv ne ((room_times u v (rw (← count) lu) (rw (← count) lv) ne).1 room);
@@ -91,14 +88,14 @@ module _ {k : ℕ} {f : SetFunction} (family : IsFamily k f) (law : IsSubmodular
   }
 
 -- of all terms
-pub claims_times : (terms : List Meaning) (n : ℕ) (q : ℤ) (rows bases : List (List ℤ)) (claimed : List Bits) (tables : List (List Bits)) → pos 1 ≤ℤ q → AreTerms n terms → AreBases (pos 1) terms rows → AreBases q terms bases → (i : ℕ) → i < length terms
-    → base_at bases i ≡ row_times q (base_at rows i) → AreClaims (term_at terms i).places (times (pos 1) (term_at terms i).value) (base_at rows i) (set_at claimed i) (table_at tables i)
-    → AreClaims (term_at terms i).places (times q (term_at terms i).value) (base_at bases i) (set_at claimed i) (table_at tables i)
-claims_times terms n q rows bases claimed tables low fit are after i li same h =
+pub claims_times : (terms : List Meaning) (n : ℕ) (p q : ℤ) (rows bases : List (List ℤ)) (claimed : List Bits) (tables : List (List Bits)) → pos 1 ≤ℤ p → pos 1 ≤ℤ q → pos 1 ≤ℤ (q *ℤ p) → AreTerms n terms → AreBases p terms rows → AreBases (q *ℤ p) terms bases
+    → (i : ℕ) → i < length terms → base_at bases i ≡ row_times q (base_at rows i) → AreClaims (term_at terms i).places (times p (term_at terms i).value) (base_at rows i) (set_at claimed i) (table_at tables i)
+    → AreClaims (term_at terms i).places (times (q *ℤ p) (term_at terms i).value) (base_at bases i) (set_at claimed i) (table_at tables i)
+claims_times terms n p q rows bases claimed tables some low many fit are after i li same h =
     let t = terms-at n terms i fit li in
-    let b = bases-at (pos 1) terms rows i are li in
-    let c = bases-at q terms bases i after li in
-    rw same (claims_stay t.family t.submodular q low (base_at rows i) b.0 b.1 (rw same at c.1) (term_at terms i).places refl (set_at claimed i) (table_at tables i) h)
+    let b = bases-at p terms rows i are li in
+    let c = bases-at (q *ℤ p) terms bases i after li in
+    rw same (claims_stay t.family t.submodular p q some low many (base_at rows i) b.0 b.1 (rw same at c.1) (term_at terms i).places refl (set_at claimed i) (table_at tables i) h)
 
 -- the spots of one list stand in another one
 spot_elsewhere : (terms : List Meaning) (n : ℕ) (spots others : List (List Spot)) → AreSpots terms n spots → AreSpots terms n others → (e j : ℕ) → e < n → j < length (spots_at others e)

@@ -93,9 +93,53 @@ fn take_rows<T: Term>(
     Ok(())
 }
 
-/// Makes the graph one of q times the terms at other bases of theirs, as `restart` does. Where these are q times the bases
-/// of a second graph, one of the terms themselves, no term is asked: what that graph keeps is copied. After want of memory
-/// nothing is said of the graph.
+/// A graph of q times the terms.
+#[derive(Drop)]
+pub struct Beside<'a, N> {
+    pub graph: &'a Graph<N>,
+    pub q: i128,
+}
+
+/// Makes the graph one of m times q times the terms at other bases of theirs, as `restart` does. Where these are m times the bases
+/// of a second graph, one of q times the terms, no term is asked: what that graph keeps is copied. After want of memory nothing is
+/// said of the graph.
+///
+/// # Errors
+///
+/// `Memory` where there is none.
+pub fn restart_times<T: Term>(
+    alloc: Global,
+    graph: &mut Graph<T::Note>,
+    terms: &[T],
+    m: i128,
+    bases: Rows,
+    other: &Beside<'_, T::Note>,
+) -> Result<(), Memory>
+    requires bounded { AreBounded (length graph.old.spots.items) (map T.places terms.now)
+        (map T.size_of terms.now) }
+    requires times { IsFactor m }
+    requires factor { IsFactor (m *ℤ other.now.q) }
+    requires graph { IsShaped T.places T.value_of terms.now
+        (length graph.old.spots.items) graph.old }
+    requires other { IsClaimed T.places T.value_of T.size_of T.fits terms.now
+        (length graph.old.spots.items) other.now.q other.now.graph.now }
+    requires bases { AreBases (m *ℤ other.now.q) (meanings T.places T.value_of terms.now) bases }
+    requires small { All (λ x. All IsEntry x) bases }
+    ensures graph { OnOk result (IsClaimed T.places T.value_of T.size_of T.fits terms.now
+        (length graph.old.spots.items) (m *ℤ other.now.q) graph.new) }
+    ensures bases { OnOk result (graph.new.bases ≡ bases) }
+{
+    if !are_multiples(m, &other.graph.bases, &bases) {
+        let n = graph.spots.len();
+        restart(alloc, graph, terms, n, m * other.q, bases)?;
+        return Ok(());
+    }
+    graph.bases = bases;
+    take_rows(alloc, graph, terms, other.graph)?;
+    Ok(())
+}
+
+/// The same where the second graph is one of the terms themselves.
 ///
 /// # Errors
 ///
@@ -121,14 +165,8 @@ pub fn restart_by<T: Term>(
         (length graph.old.spots.items) q graph.new) }
     ensures bases { OnOk result (graph.new.bases ≡ bases) }
 {
-    if !are_multiples(q, &other.bases, &bases) {
-        let n = graph.spots.len();
-        restart(alloc, graph, terms, n, q, bases)?;
-        return Ok(());
-    }
-    graph.bases = bases;
-    take_rows(alloc, graph, terms, other)?;
-    Ok(())
+    let beside = Beside { graph: other, q: 1 };
+    restart_times(alloc, graph, terms, q, bases, &beside)
 }
 
 /// The exchange graph of q times the terms at bases of theirs over a ground of n places, as `graph_at` makes it. Where these

@@ -8,7 +8,6 @@ use Rattle.sfm_spec.specs.Bounds.{IsAtMost, IsEntry, IsFactor}
 use Rattle.sfm_spec.specs.Slopes.{IsSameSlope}
 use Rattle.sfm_base.proofs.Slopes.{at_most_from_abs}
 use Rattle.sfm_spec.proofs.Scaled.{times-assoc, times-comm, times-mono}
-use Rattle.sfm_exchange.proofs.Scaling.{one-times}
 use Rattle.sfm_exchange.specs.Scaled.{row_times}
 
 -- 64 times a factor that is not too large is a factor
@@ -42,6 +41,9 @@ pub rows-small : (q : ℤ) (rows : List (List ℤ)) → IsFactor q → All (λ x
 rows-small q rows f h = All-map (λ x. All (IsAtMost (10 ^ 25)) x) (row_times q) rows (λ k d l. row-small q (get_or rows k d) f (h k d l))
 
 -- once each entry
+one-times : (a : ℤ) → (pos 1 *ℤ a) ≡ a
+one-times a = omega (arith, ints)
+
 row_once : (x : List ℤ) → row_times (pos 1) x ≡ x
 row_once [] = refl
 row_once (a ∷ x) = rw (one-times a, row_once x) refl

@@ -1,5 +1,5 @@
 -- Multiples of bases: the same walks lead at them, and what is moved and what is left is multiplied with them.
-use Rattle.std.proofs.Common.{◌≡◌, ⊎_elim, inr, ℕ, zero, suc, ◌<◌, Bool, true, false, List, [], ◌∷◌, length, map, get_or, set, Some, nat_eq, ℤ, pos, ◌+ℤ◌, ◌-ℤ◌, ◌*ℤ◌, ◌≤ℤ◌, if◌then◌else◌, refl, sym, ap, subst, ◌∙◌, arith}
+use Rattle.std.proofs.Common.{◌≡◌, ◌↔◌, ⊎_elim, inr, ℕ, zero, suc, ◌<◌, Bool, true, false, List, [], ◌∷◌, length, map, get_or, set, Some, nat_eq, ℤ, pos, ◌+ℤ◌, ◌-ℤ◌, ◌*ℤ◌, ◌≤ℤ◌, if◌then◌else◌, refl, sym, ap, subst, ◌∙◌, arith}
 use Rattle.std.proofs.Math.IntN.{*ℤ-zero}
 use Rattle.std.proofs.Math.ListN.{get_or-map}
 use Rattle.std.proofs.lemmas.Int.{ints}
@@ -8,6 +8,7 @@ use Rattle.std.specs.Option.{option_map}
 use Rattle.sfm_spec.specs.Sets.{sum_over, whole_set}
 use Rattle.sfm_spec.specs.Terms.{SetFunction, times, IsBase, HasRoom, exchanged}
 use Rattle.sfm_spec.specs.Families.{Meaning, AreTerms, AreBases, entry_at, base_sum_at, rest_at}
+use Rattle.sfm_spec.specs.Rows.{Depends}
 use Rattle.sfm_spec.specs.Walks.{Step, term_at, base_at, CanMove, IsStep, AreSteps, AllCanMove, IsWalkMove, change_at}
 use Rattle.sfm_spec.proofs.Scaled.{times_some, times-add, times-assoc, times-mono, times-sub}
 use Rattle.sfm_spec.proofs.Walks.{terms-at, bases-at}
@@ -136,11 +137,17 @@ module _ (q : ℤ) (low : pos 1 ≤ℤ q) where
         let x = base_at rows i in
         let t = terms-at n terms i fit c.in_range in
         let b = bases-at (pos 1) terms rows i bases c.in_range in
+        let once = times-one q in
+        let many : pos 1 ≤ℤ (q *ℤ pos 1) = omega (arith, ints, once, low) in
+        let unit : pos 1 ≤ℤ pos 1 = omega (arith, ints) in
         let room : HasRoom (times q f) (row_times q x) c.u c.v = (a, some, subst (λ y. IsBase (times q f) (exchanged y c.u c.v a)) (row_at rows i) c.base) in
+        let alike : Depends (times (pos 1) f) x c.u c.v ↔ Depends (times q f) (row_times q x) c.u c.v
+        = subst (λ r. Depends (times (pos 1) f) x c.u c.v ↔ Depends (times r f) (row_times q x) c.u c.v) once
+        (depends_times t.family t.submodular (pos 1) q unit low many x b.0 b.1 (base-times q (pos 1) f x low b.1) c.u c.v c.u_in c.v_in) in
         ⊎_elim
         (λ same. absurd (c.apart (sym same)))
         (λ (k, more, base). (k, more, record { in_range = c.in_range; u = c.u; v = c.v; u_in = c.u_in; v_in = c.v_in; begins = c.begins; ends = c.ends; apart = c.apart; base = base }))
-        ((depends_times t.family t.submodular q low x b.0 b.1 (base_multiple f x b.1) c.u c.v c.u_in c.v_in).1 (inr room))
+        (alike.1 (inr room))
 
     pub steps_back : (from : ℕ) (steps : List Step) → AreSteps terms q (rows_times q rows) from steps → AreSteps terms (pos 1) rows from steps
     steps_back from [] h = tt

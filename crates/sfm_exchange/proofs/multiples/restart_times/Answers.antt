@@ -1,5 +1,5 @@
-use Rattle.std.proofs.Common.{◌≡◌, ℕ, ◌<◌, length, sym, subst, ◌∙◌, pos, arith, FitsSigned}
-use Rattle.std.proofs.lemmas.Int.{to_z-of_z}
+use Rattle.std.proofs.Common.{◌≡◌, ℕ, ◌<◌, length, sym, subst, ◌∙◌, ◌*ℤ◌, arith, FitsSigned}
+use Rattle.std.proofs.lemmas.Int.{ints, to_z-of_z}
 use mir.Syntax.{w128}
 use Rattle.sfm_spec.specs.Families.{meanings}
 use Rattle.sfm_spec.specs.Walks.{base_at}
@@ -8,9 +8,9 @@ use Rattle.sfm_exchange.specs.Graph.{IsGraph}
 use Rattle.sfm_exchange.specs.Scaled.{row_times}
 use Rattle.sfm_exchange.proofs.ClaimedGraphs.{are_terms, base_count, counted, shaped, whole_claimed}
 use Rattle.sfm_exchange.proofs.Scaling.{claims_times, unions_same}
-use Rattle.sfm_exchange.proofs.multiples.restart_by.Given as given
-use Rattle.sfm_exchange.proofs.multiples.restart_by.Goals.{After-len-n}
-use Rattle.sfm_exchange.proofs.multiples.restart_by.Goals as goal
+use Rattle.sfm_exchange.proofs.multiples.restart_times.Given as given
+use Rattle.sfm_exchange.proofs.multiples.restart_times.Goals.{After-len-n}
+use Rattle.sfm_exchange.proofs.multiples.restart_times.Goals as goal
 
 -- the places are as many as the graph has spots for
 places_are : (g : given.Over) (c : After-len-n g) → c.len-n.result ≡ length c.args.graph.now.spots.items
@@ -19,16 +19,21 @@ places_are g c = omega (arith, c.len-n.ensures, c.args.graph.now.spots.ok.0)
 pub are_multiples-requires-clause-count : goal.are_multiples-requires-clause-count
 are_multiples-requires-clause-count g c =
     let t = g.T.Term in
-    let fq : FitsSigned w128 c.args.q = c.ranges.q in
+    let fq : FitsSigned w128 c.args.m = c.ranges.m in
     let ts = meanings t.places t.value_of c.args.terms.now in
-    length-bases c.args.q ts c.args.bases c.requires.bases ∙ sym (length-bases (pos 1) ts c.args.other.now.bases c.requires.other.are_bases)
+    let o = c.args.other.now in
+    length-bases (c.args.m *ℤ o.q) ts c.args.bases c.requires.bases ∙ sym (length-bases o.q ts o.graph.now.bases c.requires.other.are_bases)
 
 pub are_multiples-requires-clause-factor : goal.are_multiples-requires-clause-factor
-are_multiples-requires-clause-factor g c = let fq : FitsSigned w128 c.args.q = c.ranges.q in simp to_z-of_z c.requires.factor
+are_multiples-requires-clause-factor g c = let fq : FitsSigned w128 c.args.m = c.ranges.m in simp to_z-of_z c.requires.times
 
 pub restart-requires : goal.restart-requires
 restart-requires g c =
-    let fq : FitsSigned w128 c.args.q = c.ranges.q in
+    let fq : FitsSigned w128 c.args.m = c.ranges.m in
+    let f = c.requires.factor in
+    let k = c.requires.other.factor in
+    let fo : FitsSigned w128 c.args.other.now.q = omega (arith, ints, k.low, k.high) in
+    let fp : FitsSigned w128 (c.args.m *ℤ c.args.other.now.q) = omega (arith, ints, f.low, f.high) in
     let r = c.requires in
     let same = places_are g (goal.at.restart-requires g c).After-len-n in
     record { bounded = rw same r.bounded; factor = simp to_z-of_z r.factor; graph = rw same r.graph; bases = simp to_z-of_z r.bases; small = r.small }
@@ -36,9 +41,13 @@ restart-requires g c =
 pub returns-then-not-are_multiples-clause-graph : goal.returns-then-not-are_multiples-clause-graph
 returns-then-not-are_multiples-clause-graph g c =
     let t = g.T.Term in
-    let fq : FitsSigned w128 c.args.q = c.ranges.q in
+    let fq : FitsSigned w128 c.args.m = c.ranges.m in
+    let f = c.requires.factor in
+    let k = c.requires.other.factor in
+    let fo : FitsSigned w128 c.args.other.now.q = omega (arith, ints, k.low, k.high) in
+    let fp : FitsSigned w128 (c.args.m *ℤ c.args.other.now.q) = omega (arith, ints, f.low, f.high) in
     let r = c.requires in
-    let G : ℕ → Type 0 = λ n. IsGraph t.places t.value_of t.fits c.args.terms.now n c.args.q c.restart.new.graph in
+    let G : ℕ → Type 0 = λ n. IsGraph t.places t.value_of t.fits c.args.terms.now n (c.args.m *ℤ c.args.other.now.q) c.restart.new.graph in
     let same = places_are g (goal.at.returns-then-not-are_multiples-clause-graph g c).After-len-n in
     whole_claimed (record { bounded = r.bounded; factor = r.factor; exact = subst G same (simp to_z-of_z at c.in_ok-restart.ensures.graph) })
 
@@ -53,12 +62,12 @@ take_rows-requires g c =
 pub returns-clause-graph : goal.returns-clause-graph
 returns-clause-graph g c =
     let m = g.met.T.Term in
-    let fq : FitsSigned w128 c.args.q = c.ranges.q in
+    let fq : FitsSigned w128 c.args.m = c.ranges.m in
     let r = c.requires in
     let o = r.other in
-    let other = c.args.other.now in
+    let other = c.args.other.now.graph.now in
     let fit = are_terms o m.family m.submodular in
-    let same : (i : ℕ) → i < length other.bases → base_at c.args.bases i ≡ row_times c.args.q (base_at other.bases i) = simp to_z-of_z at (c.are_multiples.ensures c.if-not-are_multiples.false) in
+    let same : (i : ℕ) → i < length other.bases → base_at c.args.bases i ≡ row_times c.args.m (base_at other.bases i) = simp to_z-of_z at (c.are_multiples.ensures c.if-not-are_multiples.false) in
     let taken = c.in_ok-take_rows.ensures in
     record {
       bounded = r.bounded;
@@ -66,10 +75,10 @@ returns-clause-graph g c =
       are_bases = rw taken.bases r.bases;
       note_count = taken.count;
       claim_count = rw taken.claimed o.claim_count;
-      noted = rw taken.bases (taken.noted c.args.q);
+      noted = rw taken.bases (taken.noted (c.args.m *ℤ c.args.other.now.q));
       sized_rows = rw taken.rows o.sized_rows;
       claims = λ i l. rw (taken.bases, taken.claimed, taken.rows)
-          (claims_times _ _ _ other.bases c.args.bases other.claimed.items other.rows.items r.factor.low fit o.are_bases r.bases i (rw (counted o) l) (same i (rw (base_count o) l)) (o.claims i l));
+          (claims_times _ _ _ _ other.bases c.args.bases other.claimed.items other.rows.items o.factor.low r.times.low r.factor.low fit o.are_bases r.bases i (rw (counted o) l) (same i (rw (base_count o) l)) (o.claims i l));
       are_spots = rw taken.spots r.graph.are_spots;
       are_unions = rw (taken.spots, taken.rows, taken.unions) (unions_same r.graph.are_spots o.are_spots o.are_unions);
       are_turned = rw (taken.unions, taken.back) o.are_turned;
