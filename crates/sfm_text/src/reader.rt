@@ -1,6 +1,6 @@
 // Reading an instance text in pieces. A line is judged as soon as it ends, against what the lines before it led to. So only
 // the names, the terms and the line that has not ended are kept, and behind the first fault no more than a count of bytes.
-ghost use Rattle.std.specs.{Prelude.{◌≡◌, ◌==◌, ◌+◌, ◌≤◌, ◌<◌, ℕ, List, [], ◌∷◌, ◌++◌, length, replicate, true, false, None, Err, IfOk, IfErr, OnOk, OnErr, MatchOption}, List.{All, concat}};
+ghost use Rattle.std.specs.{Prelude.{◌≡◌, ◌==◌, ◌+◌, ◌≤◌, ◌<◌, ℕ, List, [], ◌∷◌, ◌++◌, length, replicate, true, false, None, Err, IfOk, IfErr, IsOk, OnOk, OnErr, MatchOption}, List.{All, concat}};
 ghost use Rattle.sfm_lines.specs.Lines.{texts_of};
 ghost use Rattle.sfm_text.specs.{GoodText.{text_limit, IsTextOf, IsRefusalOf}, Numbered.{AreNumbersOf, for_terms}};
 ghost use Rattle.sfm_text.specs.declared.end.TextEnd.TheVariants as ends;
@@ -98,6 +98,7 @@ impl Reader {
     pub fn new(alloc: Global) -> Result<Reader, Memory>
         ensures stands { IfOk result (λ reader. Stands reader []) }
         ensures fresh { IfOk result (λ reader. reader.spent ≡ false) }
+        ensures made { IsOk result }
     {
         Ok(Reader {
             spent: false,
