@@ -11,7 +11,7 @@ ghost use Rattle.sfm_slope.specs.{Nears.{IsLeastNear}, Searches.{IsSearch}};
 use crate::rows::{are_small, first_rows, grains, rows_times};
 use crate::search::{GRAIN, Search};
 use sfm_base::{Memory, Set, Slope, Steps};
-use sfm_exchange::{Graph, restart, restart_by};
+use sfm_exchange::{Beside, Graph, restart, restart_by, restart_times};
 use sfm_law::Term;
 use sfm_sizes::write_sized;
 use sfm_walk::{improve, least_minimiser};
@@ -117,7 +117,11 @@ fn least_at<T: Term>(
     let p = grains(slope.num);
     let q = grains(slope.den);
     let bases = rows_times(alloc, terms, slope.den, &search.warm.bases)?;
-    restart(alloc, &mut search.cold, terms, sizes.len(), q, bases)?;
+    let warm = Beside {
+        graph: &search.warm,
+        q: GRAIN,
+    };
+    restart_times(alloc, &mut search.cold, terms, slope.den, bases, &warm)?;
     write_sized(&mut search.shift, sizes, p);
     let least = least_by(alloc, &mut search.cold, terms, q, &search.shift)?;
     Ok(least)

@@ -3,11 +3,10 @@ use Rattle.std.proofs.lemmas.Int.{ints, to_z-of_z}
 use Rattle.std.proofs.lemmas.List.{length-map, with_items_is}
 use mir.Syntax.{w128}
 use Rattle.sfm_spec.specs.Families.{meanings, sized_shift, IsLeast}
-use Rattle.sfm_spec.specs.Bounds.{IsFactor}
 use Rattle.sfm_spec.proofs.Nest.{least_same_slope}
-use Rattle.sfm_exchange.proofs.ClaimedGraphs.{shaped, whole_claimed}
+use Rattle.sfm_exchange.proofs.ClaimedGraphs.{shaped}
 use Rattle.sfm_sizes.proofs.Sized.{sized-small}
-use Rattle.sfm_slope.proofs.Scaled.{factor-grains, same-grains}
+use Rattle.sfm_slope.proofs.Scaled.{factor-grains, rows-entries, same-grains}
 use Rattle.sfm_slope.proofs.least.least_at.Given as given
 use Rattle.sfm_slope.proofs.least.least_at.Goals as goal
 use Rattle.sfm_slope.proofs.least.least_at.Goals.{After-deref}
@@ -46,20 +45,49 @@ least_by-requires-clause-shifts g c =
     let m = sized-small (10 ^ 21) _ c.args.sizes.now c.grains-p.result c.grains-p.ensures.small c.requires.sizes in
     rw (written g (goal.at.least_by-requires-clause-shifts g c).After-deref) (omega (arith, ints, m))
 
+pub restart_times-requires-clause-bounded : goal.restart_times-requires-clause-bounded
+restart_times-requires-clause-bounded g c = rw c.requires.search.cold.are_spots.count c.requires.search.first.bounded
+
+pub restart_times-requires-clause-times : goal.restart_times-requires-clause-times
+restart_times-requires-clause-times g c =
+    let s = c.args.slope in
+    let fq : FitsSigned w128 s.den = omega (arith, ints, s.factor.low, s.factor.high) in
+    simp to_z-of_z s.factor
+
+pub restart_times-requires-clause-factor : goal.restart_times-requires-clause-factor
+restart_times-requires-clause-factor g c =
+    let s = c.args.slope in
+    let fq : FitsSigned w128 s.den = omega (arith, ints, s.factor.low, s.factor.high) in
+    simp to_z-of_z (factor-grains s.den s.factor c.requires.few)
+
+pub restart_times-requires-clause-graph : goal.restart_times-requires-clause-graph
+restart_times-requires-clause-graph g c = rw c.requires.search.cold.are_spots.count c.requires.search.cold
+
+pub restart_times-requires-clause-other : goal.restart_times-requires-clause-other
+restart_times-requires-clause-other g c = rw c.requires.search.cold.are_spots.count c.requires.search.warm
+
+pub restart_times-requires-clause-bases : goal.restart_times-requires-clause-bases
+restart_times-requires-clause-bases g c =
+    let s = c.args.slope in
+    let fq : FitsSigned w128 s.den = omega (arith, ints, s.factor.low, s.factor.high) in
+    let told = simp to_z-of_z at c.in_ok-bases.ensures.bases in
+    simp to_z-of_z told
+
+pub restart_times-requires-clause-small : goal.restart_times-requires-clause-small
+restart_times-requires-clause-small g c = rows-entries c.in_ok-bases.bases c.in_ok-bases.ensures.small
+
 pub least_by-requires-clause-graph : goal.least_by-requires-clause-graph
 least_by-requires-clause-graph g c =
     let s = c.args.slope in
+    let fd : FitsSigned w128 s.den = omega (arith, ints, s.factor.low, s.factor.high) in
     let small = c.grains-q.ensures.small in
     let fq : FitsSigned w128 c.grains-q.result = omega (arith, ints, small.low, small.high) in
     let at = (goal.at.least_by-requires-clause-graph g c).After-deref in
-    let factor : IsFactor c.grains-q.result
-    = rw (bottoms g at) (factor-grains s.den s.factor c.requires.few) in
-    let exact = simp to_z-of_z at c.in_ok-restart.ensures.graph in
-    let told = whole_claimed (record { bounded = c.requires.search.first.bounded; factor = factor; exact = exact }) in
-    rw (long g at) (simp to_z-of_z told)
+    let told = rw c.requires.search.cold.are_spots.count at (simp to_z-of_z at c.in_ok-restart_times.ensures.graph) in
+    rw (long g at) (simp to_z-of_z (rw (bottoms g at) told))
 
 pub least_by-requires-clause-small : goal.least_by-requires-clause-small
-least_by-requires-clause-small g c = rw c.in_ok-restart.ensures.bases c.in_ok-bases.ensures.small
+least_by-requires-clause-small g c = rw c.in_ok-restart_times.ensures.bases c.in_ok-bases.ensures.small
 
 pub returns-clause-search : goal.returns-clause-search
 returns-clause-search g c =
