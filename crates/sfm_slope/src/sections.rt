@@ -1,6 +1,6 @@
 // The bases of each breakpoint. They hang on the terms and the slopes alone, and few walks lead to them from the first bases,
-// however the breakpoints were found. Where there are few, or many more terms, each is found by a run of its own from the first
-// bases, and else by a tree of stages.
+// however the breakpoints were found. Where there are few, or many more terms of few places each, each is found by a run of its own
+// from the first bases, and else by a tree of stages.
 ghost use Rattle.std.specs.{Prelude.{◌≡◌, length, map, IfOk, OnOk}, List.{All}};
 ghost use Rattle.sfm_spec.specs.Families.{meanings};
 ghost use Rattle.sfm_sizes.specs.Sizes.{AreElementSizes};
@@ -32,7 +32,7 @@ pub fn sections<T: Term>(
         (λ q. map (λ term. T.start_of term q) terms.now) (length sizes.now) sizes.now) r.items) }
 {
     let mut breaks = Vec::new(search.alloc);
-    if found.len() < FEW_BREAKPOINTS || found.len() < terms.len() / MANY_TERMS {
+    if found.len() < FEW_BREAKPOINTS || is_dear(terms, found.len()) {
         for point in found {
             breaks.push(section(search, terms, sizes, point)?)?;
         }
@@ -46,8 +46,26 @@ pub fn sections<T: Term>(
 // So few breakpoints share too little for stages to be worth their graphs.
 const FEW_BREAKPOINTS: usize = 16;
 
-// A graph is dear where there are so many times as many terms as breakpoints.
+// Whether copies of a graph cost more than the stages save: there are many more terms than breakpoints, of few places each, so walks
+// are short, and a graph has rows of all terms.
+fn is_dear<T: Term>(terms: &[T], breakpoints: usize) -> bool {
+    terms.len() / MANY_TERMS > breakpoints && count_places(terms) / FEW_PLACES < terms.len()
+}
+
+// How many places the terms have in all, as far as the number goes.
+fn count_places<T: Term>(terms: &[T]) -> usize {
+    let mut count = 0usize;
+    for term in terms {
+        count = count.saturating_add(term.elements().len());
+    }
+    count
+}
+
+// So many times as many terms as breakpoints are many.
 const MANY_TERMS: usize = 6;
+
+// Cuts have two places, and fewer than so many are few.
+const FEW_PLACES: usize = 4;
 
 /// A breakpoint with bases that prove at its slope, by a run from the first bases.
 ///
