@@ -9,11 +9,10 @@ ghost use Rattle.sfm_sizes.specs.Sizes.{AreElementSizes};
 ghost use Rattle.sfm_slope.specs.{Nears.{IsLeastNear}, Searches.{IsSearch}};
 
 use crate::rows::{are_small, first_rows, grains, rows_times};
-use crate::search::{GRAIN, Search};
+use crate::search::{GRAIN, Search, set_shift};
 use sfm_base::{Memory, Set, Slope, Steps};
 use sfm_exchange::{Beside, Graph, restart, restart_by, restart_times};
 use sfm_law::Term;
-use sfm_sizes::write_sized;
 use sfm_walk::{improve, least_minimiser};
 use std::alloc::Global;
 
@@ -91,7 +90,7 @@ fn least_below<T: Term>(
 {
     let alloc = search.alloc;
     keep_small(alloc, &mut search.warm, terms, sizes.len())?;
-    write_sized(&mut search.shift, sizes, p);
+    set_shift(&mut search.shift, sizes, p);
     let least = least_by(alloc, &mut search.warm, terms, GRAIN, &search.shift)?;
     Ok(least)
 }
@@ -122,7 +121,7 @@ fn least_at<T: Term>(
         q: GRAIN,
     };
     restart_times(alloc, &mut search.cold, terms, slope.den, bases, &warm)?;
-    write_sized(&mut search.shift, sizes, p);
+    set_shift(&mut search.shift, sizes, p);
     let least = least_by(alloc, &mut search.cold, terms, q, &search.shift)?;
     Ok(least)
 }
@@ -153,7 +152,7 @@ fn least_from_first<T: Term>(
         bases,
         &search.first,
     )?;
-    write_sized(&mut search.shift, sizes, slope.num);
+    set_shift(&mut search.shift, sizes, slope.num);
     let least = least_by(alloc, &mut search.cold, terms, slope.den, &search.shift)?;
     Ok(least)
 }

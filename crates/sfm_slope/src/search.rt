@@ -2,14 +2,16 @@
 // shift, which are made once and used again at each slope. The rows at the first bases hang on no slope, so one graph stays
 // at these, and no term is asked for them again. One goes from slope to slope at 64 times the terms, whatever the denominators
 // are: so it comes within a 64th of each slope, though slopes may lie close together where sizes are large.
-ghost use Rattle.std.specs.Prelude.{map, IfOk};
-ghost use Rattle.sfm_spec.specs.Bounds.{AreBounded};
+ghost use Rattle.std.specs.Prelude.{◌≡◌, ◌^◌, length, map, pos, ◌≤ℤ◌, IfOk};
+ghost use Rattle.sfm_spec.specs.{Bounds.{AreBounded, IsAtMost}, Families.{sized_shift}, Sets.{magnitudes}};
+ghost use Rattle.sfm_sizes.specs.Sizes.{AreElementSizes};
 ghost use Rattle.sfm_slope.specs.Searches.{IsSearch};
 
 use crate::rows::first_rows;
 use sfm_base::Memory;
 use sfm_exchange::{Graph, copy_graph, graph_at, restart_by};
 use sfm_law::Term;
+use sfm_sizes::write_sized;
 use std::alloc::Global;
 
 /// The factor of the graph that goes from slope to slope.
@@ -66,4 +68,15 @@ impl<N> Search<N> {
             shift,
         })
     }
+}
+
+/// Makes a shift that of a slope with p above its line: p times the size of each element.
+pub(crate) fn set_shift(shift: &mut Vec<i128>, sizes: &[i128], p: i128)
+    requires sizes { AreElementSizes (length shift.old.items) sizes.now }
+    requires small { IsAtMost (10 ^ 21) p }
+    ensures shift { shift.new.items ≡ sized_shift sizes.now p }
+    ensures places { length shift.new.items ≡ length sizes.now }
+    ensures small { magnitudes shift.new.items ≤ℤ pos (10 ^ 27) }
+{
+    write_sized(shift, sizes, p);
 }

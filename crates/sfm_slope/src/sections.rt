@@ -6,13 +6,12 @@ ghost use Rattle.sfm_spec.specs.Families.{meanings};
 ghost use Rattle.sfm_sizes.specs.Sizes.{AreElementSizes};
 ghost use Rattle.sfm_slope.specs.{Marks.{HasBasesBy, mark_of}, Points.{IsInRange, found_mark}, Searches.{IsSearch}};
 
-use crate::search::Search;
+use crate::search::{Search, set_shift};
 use crate::standing::first_standing;
 use crate::tree::branch;
 use crate::turn::Breakpoint;
 use sfm_base::Memory;
 use sfm_law::{Break, Term};
-use sfm_sizes::write_sized;
 use sfm_walk::minimise_from_start;
 use std::alloc::Global;
 
@@ -90,7 +89,7 @@ pub fn section<T: Term>(
 {
     let slope = point.slope;
     let set = point.set.copy(search.alloc)?;
-    write_sized(&mut search.shift, sizes, slope.num);
+    set_shift(&mut search.shift, sizes, slope.num);
     let bases = minimise_from_start(
         search.alloc,
         &mut search.cold,

@@ -11,14 +11,13 @@ ghost use Rattle.sfm_stage.specs.Served.{rows_times};
 ghost use Rattle.sfm_slope.specs.{Marks.{HasBasesBy, mark_of}, Points.{IsInRange, found_mark}, Searches.{IsSearch}, Standings.{IsStanding, IsSection}};
 
 use crate::rows::{all_times, are_small, first_rows};
-use crate::search::Search;
+use crate::search::{Search, set_shift};
 use crate::sections::section;
 use crate::standing::{Standing, copy_standing, most_walks, stage_over};
 use crate::turn::Breakpoint;
 use sfm_base::{Memory, Rows, Slope, Steps};
 use sfm_exchange::{copy_rows, restart_by};
 use sfm_law::{Break, Term, product};
-use sfm_sizes::write_sized;
 use sfm_walk::improve;
 use std::alloc::Global;
 use std::mem;
@@ -199,7 +198,7 @@ fn walk_on<T: Term>(
 {
     let alloc = search.alloc;
     restart_by(alloc, &mut search.cold, terms, slope.den, bases, &at.graph)?;
-    write_sized(&mut search.shift, sizes, slope.num);
+    set_shift(&mut search.shift, sizes, slope.num);
     let mut steps = Steps::new();
     improve(
         alloc,

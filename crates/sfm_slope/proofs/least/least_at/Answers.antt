@@ -24,26 +24,20 @@ bottoms g c =
     let fq : FitsSigned w128 s.den = omega (arith, ints, s.factor.low, s.factor.high) in
     simp to_z-of_z at c.grains-q.ensures.times
 
--- all of the shift is written
+-- the shift that is read is the one that was written
 written : (g : given.Over) (c : After-deref g)
     → c.deref.result.now ≡ sized_shift c.args.sizes.now c.grains-p.result
 written g c =
     let small = c.grains-p.ensures.small in
     let fp : FitsSigned w128 c.grains-p.result = omega (arith, ints, small.low, small.high) in
-    let sized : c.write_sized.new.shift ≡ sized_shift c.args.sizes.now c.grains-p.result
-    = simp to_z-of_z at c.write_sized.ensures in
-    c.deref.ensures.value
-    ∙ (with_items_is c.args.search.now.shift c.write_sized.new.shift
-    (c.write_sized.auto.shift ∙ c.deref_mut.ensures.len) ∙ sized)
+    c.deref.ensures.value ∙ (simp to_z-of_z at c.set_shift.ensures.shift)
 
 -- so it has a number for each place
 long : (g : given.Over) (c : After-deref g) → length c.deref.result.now ≡ length c.args.sizes.now
-long g c = ap length (written g c) ∙ length-map c.args.sizes.now _
+long g c = ap length c.deref.ensures.value ∙ c.set_shift.ensures.places
 
 pub least_by-requires-clause-shifts : goal.least_by-requires-clause-shifts
-least_by-requires-clause-shifts g c =
-    let m = sized-small (10 ^ 21) _ c.args.sizes.now c.grains-p.result c.grains-p.ensures.small c.requires.sizes in
-    rw (written g (goal.at.least_by-requires-clause-shifts g c).After-deref) (omega (arith, ints, m))
+least_by-requires-clause-shifts g c = rw c.deref.ensures.value c.set_shift.ensures.small
 
 pub restart_times-requires-clause-bounded : goal.restart_times-requires-clause-bounded
 restart_times-requires-clause-bounded g c = rw c.requires.search.cold.are_spots.count c.requires.search.first.bounded
@@ -99,7 +93,7 @@ returns-clause-search g c =
       first = c.requires.search.first;
       warm = c.requires.search.warm;
       cold = shaped cold;
-      shift = ap length (sym c.deref.ensures.value) ∙ long g at;
+      shift = c.set_shift.ensures.places;
     }
 
 pub returns-clause-least : goal.returns-clause-least

@@ -8,41 +8,32 @@ use Rattle.sfm_slope.proofs.least.least_below.Given as given
 use Rattle.sfm_slope.proofs.least.least_below.Goals as goal
 use Rattle.sfm_slope.proofs.least.least_below.Goals.{After-deref}
 
--- all of the shift is written
+-- the shift that is read is the one that was written
 written : (g : given.Over) (c : After-deref g)
     → c.deref.result.now ≡ sized_shift c.args.sizes.now c.args.p
 written g c =
     let small = c.requires.small in
     let fp : FitsSigned w128 c.args.p = c.ranges.p in
-    let sized : c.write_sized.new.shift ≡ sized_shift c.args.sizes.now c.args.p
-    = simp to_z-of_z at c.write_sized.ensures in
-    c.deref.ensures.value
-    ∙ (with_items_is c.args.search.now.shift c.write_sized.new.shift
-    (c.write_sized.auto.shift ∙ c.deref_mut.ensures.len) ∙ sized)
+    c.deref.ensures.value ∙ (simp to_z-of_z at c.set_shift.ensures.shift)
 
 -- so it has a number for each place
 long : (g : given.Over) (c : After-deref g) → length c.deref.result.now ≡ length c.args.sizes.now
-long g c = ap length (written g c) ∙ length-map c.args.sizes.now _
+long g c = ap length c.deref.ensures.value ∙ c.set_shift.ensures.places
 
 pub keep_small-requires : goal.keep_small-requires
 keep_small-requires g c = record { graph = c.requires.search.warm }
 
-pub write_sized-requires-clause-sizes : goal.write_sized-requires-clause-sizes
-write_sized-requires-clause-sizes g c =
-    let sized : length c.deref_mut.result.now ≡ length c.args.sizes.now
-    = ap length c.deref_mut.ensures.value ∙ c.requires.search.shift in
-    rw sized c.requires.sizes
+pub set_shift-requires-clause-sizes : goal.set_shift-requires-clause-sizes
+set_shift-requires-clause-sizes g c = rw c.requires.search.shift c.requires.sizes
 
-pub write_sized-requires-clause-small : goal.write_sized-requires-clause-small
-write_sized-requires-clause-small g c =
+pub set_shift-requires-clause-small : goal.set_shift-requires-clause-small
+set_shift-requires-clause-small g c =
     let r = c.requires.small in
     let fp : FitsSigned w128 c.args.p = c.ranges.p in
     simp to_z-of_z (record { low = omega (arith, ints, r.low); high = omega (arith, ints, r.high) })
 
 pub least_by-requires-clause-shifts : goal.least_by-requires-clause-shifts
-least_by-requires-clause-shifts g c =
-    let m = sized-small (10 ^ 21) _ c.args.sizes.now c.args.p c.requires.small c.requires.sizes in
-    rw (written g (goal.at.least_by-requires-clause-shifts g c).After-deref) (omega (arith, ints, m))
+least_by-requires-clause-shifts g c = rw c.deref.ensures.value c.set_shift.ensures.small
 
 pub least_by-requires-clause-graph : goal.least_by-requires-clause-graph
 least_by-requires-clause-graph g c =
@@ -58,7 +49,7 @@ returns-clause-search g c =
       first = c.requires.search.first;
       warm = rw (long g at) at c.in_ok-least.ensures.graph;
       cold = c.requires.search.cold;
-      shift = ap length (sym c.deref.ensures.value) ∙ long g at;
+      shift = c.set_shift.ensures.places;
     }
 
 pub returns-clause-least : goal.returns-clause-least

@@ -10,21 +10,17 @@ use Rattle.sfm_slope.proofs.least.least_from_first.Given as given
 use Rattle.sfm_slope.proofs.least.least_from_first.Goals as goal
 use Rattle.sfm_slope.proofs.least.least_from_first.Goals.{After-deref}
 
--- all of the shift is written
+-- the shift that is read is the one that was written
 written : (g : given.Over) (c : After-deref g)
     → c.deref.result.now ≡ sized_shift c.args.sizes.now c.args.slope.num
 written g c =
     let s = c.args.slope in
     let fp : FitsSigned w128 s.num = omega (arith, ints, s.entry.low, s.entry.high) in
-    let sized : c.write_sized.new.shift ≡ sized_shift c.args.sizes.now s.num
-    = simp to_z-of_z at c.write_sized.ensures in
-    c.deref.ensures.value
-    ∙ (with_items_is c.args.search.now.shift c.write_sized.new.shift
-    (c.write_sized.auto.shift ∙ c.deref_mut.ensures.len) ∙ sized)
+    c.deref.ensures.value ∙ (simp to_z-of_z at c.set_shift.ensures.shift)
 
 -- so it has a number for each place
 long : (g : given.Over) (c : After-deref g) → length c.deref.result.now ≡ length c.args.sizes.now
-long g c = ap length (written g c) ∙ length-map c.args.sizes.now _
+long g c = ap length c.deref.ensures.value ∙ c.set_shift.ensures.places
 
 pub first_rows-requires-clause-sizes : goal.first_rows-requires-clause-sizes
 first_rows-requires-clause-sizes g c = c.requires.search.first.bounded.small
@@ -44,23 +40,18 @@ restart_by-requires-clause-small g c = rows-entries c.in_ok-bases.bases c.in_ok-
 pub restart_by-requires-clause-other : goal.restart_by-requires-clause-other
 restart_by-requires-clause-other g c = rw c.requires.search.cold.are_spots.count c.requires.search.first
 
-pub write_sized-requires-clause-sizes : goal.write_sized-requires-clause-sizes
-write_sized-requires-clause-sizes g c =
-    let sized : length c.deref_mut.result.now ≡ length c.args.sizes.now
-    = ap length c.deref_mut.ensures.value ∙ c.requires.search.shift in
-    rw sized c.requires.sizes
+pub set_shift-requires-clause-sizes : goal.set_shift-requires-clause-sizes
+set_shift-requires-clause-sizes g c = rw c.requires.search.shift c.requires.sizes
 
-pub write_sized-requires-clause-small : goal.write_sized-requires-clause-small
-write_sized-requires-clause-small g c =
+pub set_shift-requires-clause-small : goal.set_shift-requires-clause-small
+set_shift-requires-clause-small g c =
     let s = c.args.slope in
     let r = c.requires.small in
     let fp : FitsSigned w128 s.num = omega (arith, ints, s.entry.low, s.entry.high) in
     simp to_z-of_z (record { low = omega (arith, ints, r.low); high = omega (arith, ints, r.high) })
 
 pub least_by-requires-clause-shifts : goal.least_by-requires-clause-shifts
-least_by-requires-clause-shifts g c =
-    let m = sized-small (10 ^ 19) _ c.args.sizes.now c.args.slope.num c.requires.small c.requires.sizes in
-    rw (written g (goal.at.least_by-requires-clause-shifts g c).After-deref) (omega (arith, ints, m))
+least_by-requires-clause-shifts g c = rw c.deref.ensures.value c.set_shift.ensures.small
 
 pub least_by-requires-clause-graph : goal.least_by-requires-clause-graph
 least_by-requires-clause-graph g c =
@@ -80,7 +71,7 @@ returns-clause-search g c =
       first = c.requires.search.first;
       warm = c.requires.search.warm;
       cold = shaped cold;
-      shift = ap length (sym c.deref.ensures.value) ∙ long g at;
+      shift = c.set_shift.ensures.places;
     }
 
 pub returns-clause-least : goal.returns-clause-least

@@ -8,30 +8,23 @@ use Rattle.sfm_slope.proofs.sections.section.Given as given
 use Rattle.sfm_slope.proofs.sections.section.Goals as goal
 use Rattle.sfm_slope.proofs.sections.section.Goals.{After-deref}
 
--- all of the shift is written
+-- the shift that is read is the one that was written
 written : (g : given.Over) (c : After-deref g)
     → c.deref.result.now ≡ sized_shift c.args.sizes.now c.args.point.now.slope.num
 written g c =
     let s = c.args.point.now.slope in
     let fp : FitsSigned w128 s.num = omega (arith, ints, s.entry.low, s.entry.high) in
-    let sized : c.write_sized.new.shift ≡ sized_shift c.args.sizes.now s.num
-    = simp to_z-of_z at c.write_sized.ensures in
-    c.deref.ensures.value
-    ∙ (with_items_is c.args.search.now.shift c.write_sized.new.shift
-    (c.write_sized.auto.shift ∙ c.deref_mut.ensures.len) ∙ sized)
+    c.deref.ensures.value ∙ (simp to_z-of_z at c.set_shift.ensures.shift)
 
 -- so it has a number for each place
 long : (g : given.Over) (c : After-deref g) → length c.deref.result.now ≡ length c.args.sizes.now
-long g c = ap length (written g c) ∙ length-map c.args.sizes.now _
+long g c = ap length c.deref.ensures.value ∙ c.set_shift.ensures.places
 
-pub write_sized-requires-clause-sizes : goal.write_sized-requires-clause-sizes
-write_sized-requires-clause-sizes g c =
-    let sized : length c.deref_mut.result.now ≡ length c.args.sizes.now
-    = ap length c.deref_mut.ensures.value ∙ c.requires.search.shift in
-    rw sized c.requires.sizes
+pub set_shift-requires-clause-sizes : goal.set_shift-requires-clause-sizes
+set_shift-requires-clause-sizes g c = rw c.requires.search.shift c.requires.sizes
 
-pub write_sized-requires-clause-small : goal.write_sized-requires-clause-small
-write_sized-requires-clause-small g c =
+pub set_shift-requires-clause-small : goal.set_shift-requires-clause-small
+set_shift-requires-clause-small g c =
     let s = c.args.point.now.slope in
     let r = c.requires.range.small in
     let fp : FitsSigned w128 s.num = omega (arith, ints, s.entry.low, s.entry.high) in
@@ -41,11 +34,7 @@ pub minimise_from_start-requires-clause-bounded : goal.minimise_from_start-requi
 minimise_from_start-requires-clause-bounded g c = rw (long g (goal.at.minimise_from_start-requires-clause-bounded g c).After-deref) c.requires.search.first.bounded
 
 pub minimise_from_start-requires-clause-shifts : goal.minimise_from_start-requires-clause-shifts
-minimise_from_start-requires-clause-shifts g c =
-    let s = c.args.point.now.slope in
-    let m = sized-small (10 ^ 19) _ c.args.sizes.now s.num c.requires.range.small c.requires.sizes in
-    let at = (goal.at.minimise_from_start-requires-clause-shifts g c).After-deref in
-    rw (written g at) (omega (arith, ints, m))
+minimise_from_start-requires-clause-shifts g c = rw c.deref.ensures.value c.set_shift.ensures.small
 
 pub minimise_from_start-requires-clause-graph : goal.minimise_from_start-requires-clause-graph
 minimise_from_start-requires-clause-graph g c = rw (long g (goal.at.minimise_from_start-requires-clause-graph g c).After-deref) c.requires.search.cold
@@ -60,7 +49,7 @@ returns-clause-search g c =
       first = c.requires.search.first;
       warm = c.requires.search.warm;
       cold = rw (long g at) at c.in_ok-bases.ensures.graph;
-      shift = ap length (sym c.deref.ensures.value) ∙ long g at;
+      shift = c.set_shift.ensures.places;
     }
 
 pub returns-clause-bases : goal.returns-clause-bases

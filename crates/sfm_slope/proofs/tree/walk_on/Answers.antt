@@ -13,20 +13,16 @@ use Rattle.sfm_slope.proofs.tree.walk_on.Given as given
 use Rattle.sfm_slope.proofs.tree.walk_on.Goals as goal
 use Rattle.sfm_slope.proofs.tree.walk_on.Goals.{After-deref}
 
--- all of the shift is written
+-- the shift that is read is the one that was written
 written : (g : given.Over) (c : After-deref g) → c.deref.result.now ≡ sized_shift c.args.sizes.now c.args.slope.num
 written g c =
     let s = c.args.slope in
     let fp : FitsSigned w128 s.num = omega (arith, ints, s.entry.low, s.entry.high) in
-    let sized : c.write_sized.new.shift ≡ sized_shift c.args.sizes.now s.num
-    = simp to_z-of_z at c.write_sized.ensures in
-    c.deref.ensures.value
-    ∙ (with_items_is c.args.search.now.shift c.write_sized.new.shift
-    (c.write_sized.auto.shift ∙ c.deref_mut.ensures.len) ∙ sized)
+    c.deref.ensures.value ∙ (simp to_z-of_z at c.set_shift.ensures.shift)
 
 -- so it has a number for each place
 long : (g : given.Over) (c : After-deref g) → length c.deref.result.now ≡ length c.args.sizes.now
-long g c = ap length (written g c) ∙ length-map c.args.sizes.now _
+long g c = ap length c.deref.ensures.value ∙ c.set_shift.ensures.places
 
 pub restart_by-requires-clause-bases : goal.restart_by-requires-clause-bases
 restart_by-requires-clause-bases g c =
@@ -36,9 +32,7 @@ restart_by-requires-clause-bases g c =
     simp to_z-of_z (rw c.requires.multiple (bases_multiple s.den s.factor.low (meanings t.places t.value_of c.args.terms.now) c.args.at.now.graph.bases c.requires.standing.1.claimed.are_bases))
 
 pub improve-requires-clause-shifts : goal.improve-requires-clause-shifts
-improve-requires-clause-shifts g c =
-    let m = sized-small (10 ^ 19) _ c.args.sizes.now c.args.slope.num c.requires.range c.requires.sizes in
-    rw (written g (goal.at.improve-requires-clause-shifts g c).After-deref) (omega (arith, ints, m))
+improve-requires-clause-shifts g c = rw c.deref.ensures.value c.set_shift.ensures.small
 
 pub overflow_add-at : goal.overflow_add-at
 overflow_add-at g c =
@@ -57,7 +51,7 @@ returns-then-at-count-clause-search g c =
       first = c.requires.search.first;
       warm = c.requires.search.warm;
       cold = rw (long g at) at (shaped c.in_ok-improve.ensures.graph);
-      shift = ap length (sym c.deref.ensures.value) ∙ long g at;
+      shift = c.set_shift.ensures.places;
     }
 
 pub returns-clause-search : goal.returns-clause-search
@@ -68,7 +62,7 @@ returns-clause-search g c =
       first = c.requires.search.first;
       warm = c.requires.search.warm;
       cold = record { are_spots = s.are_spots; sized_rows = s.sized_rows; claim_count = s.claim_count; union_count = s.union_count; back_count = s.back_count };
-      shift = ap length (sym c.deref.ensures.value) ∙ long g at;
+      shift = c.set_shift.ensures.places;
     }
 
 pub returns-clause-section : goal.returns-clause-section
