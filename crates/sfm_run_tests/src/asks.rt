@@ -1,20 +1,13 @@
 // The best set with members pinned in and out: what `ask` writes, over an instance and pins in memory.
-use crate::beside::{Row, is_met};
+use crate::beside::{DUE, Row, is_met};
 use crate::cases::READ_FAILED;
-
-const EDGE: &[u8] = b"sfm 1\nground a b\nweight a:-3 b:2\ncut 4 a b\nend\n";
 
 const NEED: &[u8] = b"sfm 1\nground a b\nneed a b\nend\n";
 
 /// An instance and pins for which an answer is due.
 const ASKS: Row = Row {
     words: &["ask", "file", "side"],
-    file: EDGE,
-    side: b"",
-    answer: b"",
-    code: 0,
-    out: b"",
-    err: b"",
+    ..DUE
 };
 
 /// A text with a fault.

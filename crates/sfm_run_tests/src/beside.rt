@@ -16,6 +16,20 @@ pub struct Row<'a> {
     pub err: &'a [u8],
 }
 
+/// An instance of two elements with a cut between them.
+const EDGE: &[u8] = b"sfm 1\nground a b\nweight a:-3 b:2\ncut 4 a b\nend\n";
+
+/// A call over that instance, with nothing beside it, for which an answer is due.
+pub const DUE: Row = Row {
+    words: &[],
+    file: EDGE,
+    side: b"",
+    answer: b"",
+    code: 0,
+    out: b"",
+    err: b"",
+};
+
 /// A shelf with the three texts.
 fn shelf_of(alloc: Global, row: &Row) -> Result<MemoryShelf, Memory> {
     let mut shelf = MemoryShelf::new(alloc, 65536, &[])?;

@@ -1,10 +1,8 @@
 // Edited instances: what `edit` writes, over an instance and edits in memory.
-use crate::beside::{Row, begins, is_met};
+use crate::beside::{DUE, Row, begins, is_met};
 use crate::cases::READ_FAILED;
 
 const FIRST: &[u8] = b"sfm 1\nground a b\nweight a:-3 b:2\nend\n";
-
-const EDGE: &[u8] = b"sfm 1\nground a b\nweight a:-3 b:2\ncut 4 a b\nend\n";
 
 const FIRST_ANSWER: &[u8] =
     b"answer 1\nminimum -3\nleast a\ngreatest a\nslope -3/1 a\nslope 2/1 a b\nat 0/1\nbase 1 -3 2\nat -3/1\nbase 1 -3 2\nat 2/1\nbase 1 -3 2\nend\n";
@@ -12,12 +10,7 @@ const FIRST_ANSWER: &[u8] =
 /// An instance and edits for which an answer is due.
 const EDITS: Row = Row {
     words: &["edit", "file", "side"],
-    file: EDGE,
-    side: b"",
-    answer: b"",
-    code: 0,
-    out: b"",
-    err: b"",
+    ..DUE
 };
 
 /// A text with a fault.

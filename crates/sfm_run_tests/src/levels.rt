@@ -1,18 +1,11 @@
 // Most level bases: what `level` writes, over an instance in memory.
-use crate::beside::{Row, begins, is_met};
+use crate::beside::{DUE, Row, begins, is_met};
 use crate::cases::READ_FAILED;
-
-const EDGE: &[u8] = b"sfm 1\nground a b\nweight a:-3 b:2\ncut 4 a b\nend\n";
 
 /// An instance for which a most level base is due.
 const LEVELS: Row = Row {
     words: &["level", "file"],
-    file: EDGE,
-    side: b"",
-    answer: b"",
-    code: 0,
-    out: b"",
-    err: b"",
+    ..DUE
 };
 
 /// A text with a fault.

@@ -1,5 +1,5 @@
 // Two instances in memory: the common vectors that `meet` tells, the verdicts of `met`, and what is refused.
-use crate::beside::{Row, begins, called, is_met};
+use crate::beside::{DUE, Row, begins, called, is_met};
 use crate::cases::{READ_FAILED, SOUND, VALID, call};
 use crate::shelves::WatchedShelf;
 use sfm_base::Memory;
@@ -16,10 +16,7 @@ const MEETS: Row = Row {
     words: MEET,
     file: NO_TERM,
     side: NO_TERM,
-    answer: b"",
-    code: 0,
-    out: b"",
-    err: b"",
+    ..DUE
 };
 
 /// What is written is determined.

@@ -1,6 +1,6 @@
 // Instances of version 2 of the text: elements of ranks with weights, larger numbers, and a base line for each layer.
 use crate::beside;
-use crate::beside::Row;
+use crate::beside::{DUE, Row};
 use crate::cases::{Case, Outside, SOUND, VALID, check, is_met, solve, solved};
 use crate::solutions::is_solved;
 use std::alloc::Global;
@@ -179,11 +179,8 @@ const COMMON: &[u8] =
 const EDITS: Row = Row {
     words: &["edit", "file", "side"],
     file: TWO_LINES,
-    side: b"",
-    answer: b"",
     code: 2,
-    out: b"",
-    err: b"",
+    ..DUE
 };
 
 const MET: Row = Row {
@@ -191,9 +188,8 @@ const MET: Row = Row {
     file: LEFT,
     side: RIGHT,
     answer: COMMON,
-    code: 0,
     out: VALID,
-    err: b"",
+    ..DUE
 };
 
 /// What the other commands write.

@@ -1,12 +1,10 @@
 // Slopes by sizes: what `weigh` writes, and what `weighed` says of an answer, over three texts in memory.
-use crate::beside::{Row, is_met};
+use crate::beside::{DUE, Row, is_met};
 use crate::cases::READ_FAILED;
 
 const WEIGH: &[&str] = &["weigh", "file", "side"];
 
 const WEIGHED: &[&str] = &["weighed", "file", "side", "answer"];
-
-const EDGE: &[u8] = b"sfm 1\nground a b\nweight a:-3 b:2\ncut 4 a b\nend\n";
 
 const EDGE_SIZES: &[u8] = b"sizes 1\nsize b:3\nend\n";
 
@@ -27,12 +25,10 @@ const THREE_ANSWER: &[u8] =
 /// A right answer, judged so.
 const VALID: Row = Row {
     words: WEIGHED,
-    file: EDGE,
     side: EDGE_SIZES,
     answer: EDGE_HEAD,
-    code: 0,
     out: b"valid\n",
-    err: b"",
+    ..DUE
 };
 
 /// An instance and sizes for which an answer is due.
