@@ -1,16 +1,16 @@
 -- Amounts lowered cell by cell, and what they then leave.
-use Rattle.std.proofs.Common.{◌≡◌, ℕ, zero, suc, ◌+◌, ◌<◌, ◌≤◌, ◌^◌, List, [], ◌∷◌, length, set, ℤ, pos, ◌+ℤ◌, ◌-ℤ◌, ◌≤ℤ◌, ◌<ℤ◌, refl, sym, ap, ◌∙◌, arith, FitsSigned, ⊎_elim, length-set, get_or-set_other, get_or-set_same}
+use Rattle.std.proofs.Common.{◌≡◌, ℕ, zero, suc, ◌+◌, ◌<◌, ◌≤◌, ◌^◌, List, [], ◌∷◌, length, set, ℤ, pos, ◌+ℤ◌, ◌-ℤ◌, ◌≤ℤ◌, ◌<ℤ◌, refl, sym, ap, ◌∙◌, add-one, arith, FitsSigned, ⊎_elim, length-set, get_or-set_other, get_or-set_same}
 use Rattle.std.specs.List.{All}
 use Rattle.std.proofs.lemmas.Int.{ints, by_lt_z}
 use Rattle.std.proofs.lemmas.Bool.{cases_eq}
-use Rattle.std.proofs.lemmas.List.{get_or_default, same_lists}
+use Rattle.std.proofs.lemmas.List.{set-get_or}
 use Rattle.std.proofs.lemmas.List.Elements.{All-get_or, All-set}
 use mir.Syntax.{w128}
 use Rattle.sfm_split.specs.Splits.{sum_at, amount_at, IsAmount, IsCapacity}
-use Rattle.sfm_split.specs.Cells.{label_at, AreCells, IsPart}
+use Rattle.sfm_split.specs.Cells.{label_at, AreCells}
 use Rattle.sfm_split.specs.Search.{AreLeft, ListsBelow, ListsLacking}
 use Rattle.sfm_split.specs.Pours.{IsPouring, AreWithin}
-use Rattle.sfm_split.specs.Lowers.{IsCharge, AreSmall, AreCharged, AreLowered, IsStanding, MayHold, MayAsk}
+use Rattle.sfm_split.specs.Lowers.{IsCharge, AreSmall, AreCharged, AreLowered, IsStanding, StandsBy, IsTotal, turned, CanPut, lacks_put, rooms_put}
 use Rattle.sfm_split.specs.Sides.{of_side}
 use Rattle.sfm_split.specs.declared.lower.Side.{Side}
 use Rattle.sfm_split.specs.declared.lower.Side.TheVariants.{Demands, Slots}
@@ -54,6 +54,14 @@ module _ (totals : List ℤ) (labels : List ℕ) (y left : List ℤ) (e : ℕ) (
       let r = h.each j below in
       let s = sum_at-holds labels y e low same lt in
       omega (arith, ints, r, s, most)
+
+  can_give : AreAmounts y → AreSmall left → amount_at totals j ≤ℤ pos (10 ^ 32) → pos 0 ≤ℤ a → a ≤ℤ amount_at y e → CanPut left j a
+  can_give low small high some most =
+      let p = h.places in
+      let l = below in
+      let s = small j in
+      let f = left_fits low most in
+      record { place = omega (arith, l, p); low = omega (arith, ints, s, some); high = omega (arith, ints, f, high) }
 
 -- where something is left on the cell, all that was asked for is given back
 given_all : (y left : List ℤ) (e k : ℕ) (a over : ℤ) → e < length y → k < length left → (pos 1 ≤ℤ (amount_at y e -ℤ a) → a ≡ over) → pos 1 ≤ℤ amount_at (set y e (amount_at y e -ℤ a)) e
@@ -145,20 +153,15 @@ module _ (whos slots : List ℕ) (y lacks rooms : List ℤ) where
     charged_cells = rw (w.charge.lacks_are.places, w.charge.rooms_are.places) w.cells
 
     -- what is left stays small where an amount is given back
-    pub charged_lacks : (e : ℕ) (a : ℤ) → e < length whos → a ≤ℤ amount_at y e → (amount_at lacks (label_at whos e) +ℤ a) ≤ℤ pos (10 ^ 32)
-    charged_lacks e a lt most =
+    pub side_give : (e : ℕ) (a : ℤ) → e < length whos → pos 0 ≤ℤ a → a ≤ℤ amount_at y e → (side : Side) → CanPut (of_side side lacks rooms) (label_at (of_side side whos slots) e) a
+    side_give e a lt some most Demands =
         let li = w.cells.owned e lt in
-        let f = left_fits w.demands whos y lacks e a w.charge.cells lt li w.charge.lacks_are w.charge.amounts most in
-        let b = (All-get_or IsAmount w.demands (label_at whos e) (pos 0) li w.asked).high in
-        omega (arith, ints, f, b)
-
-    pub charged_rooms : (e : ℕ) (a : ℤ) → e < length whos → a ≤ℤ amount_at y e → (amount_at rooms (label_at slots e) +ℤ a) ≤ℤ pos (10 ^ 32)
-    charged_rooms e a lt most =
+        can_give w.demands whos y lacks e a w.charge.cells lt li w.charge.lacks_are w.charge.amounts w.lacks_small (All-get_or IsAmount w.demands (label_at whos e) (pos 0) li w.asked).high some most
+    side_give e a lt some most Slots =
         let ls = w.cells.exist e lt in
         let same = w.cells.same in
-        let f = left_fits w.capacities slots y rooms e a (w.charge.cells ∙ sym w.cells.same) (omega (arith, lt, same)) ls w.charge.rooms_are w.charge.amounts most in
         let b = (All-get_or IsCapacity w.capacities (label_at slots e) (pos 0) ls w.bounded).high in
-        omega (arith, ints, f, b)
+        can_give w.capacities slots y rooms e a (w.charge.cells ∙ sym w.cells.same) (omega (arith, lt, same)) ls w.charge.rooms_are w.charge.amounts w.rooms_small (omega (arith, ints, b)) some most
 
     -- where something is left on the cell, both sides have all back that was asked for
     pub given_back : (e : ℕ) (a over : ℤ) → e < length whos → (pos 1 ≤ℤ (amount_at y e -ℤ a) → a ≡ over) → pos 1 ≤ℤ amount_at (set y e (amount_at y e -ℤ a)) e → (side : Side)
@@ -190,15 +193,9 @@ module _ (whos slots : List ℕ) (y lacks rooms : List ℤ) where
       charge_after : IsCharge w.demands w.capacities whos slots z lacks' rooms'
       charge_after = r.each w.demands w.capacities w.cells w.charge
 
-      pub lowered_lacks : length lacks' ≡ length lacks
-      lowered_lacks = charge_after.lacks_are.places ∙ sym w.charge.lacks_are.places
-
-      pub lowered_rooms : length rooms' ≡ length rooms
-      lowered_rooms = charge_after.rooms_are.places ∙ sym w.charge.rooms_are.places
-
       pub side_places : (side : Side) → length (of_side side lacks' rooms') ≡ length (of_side side lacks rooms)
-      side_places Demands = lowered_lacks
-      side_places Slots = lowered_rooms
+      side_places Demands = charge_after.lacks_are.places ∙ sym w.charge.lacks_are.places
+      side_places Slots = charge_after.rooms_are.places ∙ sym w.charge.rooms_are.places
 
       pub still_charged : AreCharged whos slots z lacks' rooms'
       still_charged = record {
@@ -208,20 +205,9 @@ module _ (whos slots : List ℕ) (y lacks rooms : List ℤ) where
         asked = w.asked;
         bounded = w.bounded;
         charge = charge_after;
-        lacks_small = λ k lt. let p = lowered_lacks in let s = w.lacks_small k (omega (arith, lt, p)) in let u = r.lacks_rise k in omega (arith, ints, s, u);
-        rooms_small = λ k lt. let p = lowered_rooms in let s = w.rooms_small k (omega (arith, lt, p)) in let u = r.rooms_rise k in omega (arith, ints, s, u);
+        lacks_small = λ k. let s = w.lacks_small k in let u = r.lacks_rise k in omega (arith, ints, s, u);
+        rooms_small = λ k. let s = w.rooms_small k in let u = r.rooms_rise k in omega (arith, ints, s, u);
       }
-
--- ---- the end: nothing is too much
-
-pub charge_part : (demands capacities : List ℤ) (whos slots : List ℕ) (y lacks rooms : List ℤ) → IsCharge demands capacities whos slots y lacks rooms → ((i : ℕ) → i < length lacks → pos 0 ≤ℤ amount_at lacks i) → ((s : ℕ) → s < length rooms → pos 0 ≤ℤ amount_at rooms s)
-    → IsPart demands capacities whos slots y
-charge_part demands capacities whos slots y lacks rooms h few fits = record {
-  cells = h.cells;
-  amounts = h.amounts;
-  got = λ i lt. let p = h.lacks_are.places in let l = few i (omega (arith, lt, p)) in let r = h.lacks_are.each i lt in omega (arith, ints, l, r);
-  within = λ s lt. let p = h.rooms_are.places in let l = fits s (omega (arith, lt, p)) in let r = h.rooms_are.each s lt in omega (arith, ints, l, r);
-}
 
 -- ---- other totals in place of those that amounts are within
 
@@ -248,267 +234,207 @@ left_turned totals labels y left k more lt h =
     }
 
 -- of what is left, none below nothing, one changes by no more than a demand can ask for
-pub turned_small : (left : List ℤ) (k : ℕ) (more : ℤ) → k < length left → ((i : ℕ) → i < length left → pos 0 ≤ℤ amount_at left i) → pos 0 ≤ℤ (more +ℤ pos (10 ^ 32)) → AreSmall (set left k (amount_at left k +ℤ more))
-turned_small left k more lt low least i li =
-    let p = length-set left k (amount_at left k +ℤ more) in
-    let li' : i < length left = omega (arith, li, p) in
-    ⊎_elim
-    (λ (q : i ≡ k). let e = get_or-set_same left k (amount_at left k +ℤ more) (pos 0) lt in let l = low k lt in rw q (omega (arith, ints, e, l, least)))
-    (λ ne. let e = get_or-set_other left k i (amount_at left k +ℤ more) (pos 0) ne in let l = low i li' in omega (arith, ints, e, l))
+turned_small : (left : List ℤ) (k : ℕ) (more : ℤ) → k < length left → AreAmounts left → pos 0 ≤ℤ (more +ℤ pos (10 ^ 32)) → AreSmall (set left k (amount_at left k +ℤ more))
+turned_small left k more lt low least i = ⊎_elim
+    (λ (q : i ≡ k). let e = get_or-set_same left k (amount_at left k +ℤ more) (pos 0) lt in let l = low k in rw q (omega (arith, ints, e, l, least)))
+    (λ ne. let e = get_or-set_other left k i (amount_at left k +ℤ more) (pos 0) ne in let l = low i in omega (arith, ints, e, l))
     (cases_eq i k)
 
+still_small : (left : List ℤ) → AreAmounts left → AreSmall left
+still_small left low k = let l = low k in omega (arith, ints, l)
+
 -- what rises from there, and is not below nothing at the place of the change, is so nowhere
-turned_low : (left after : List ℤ) (k : ℕ) (more : ℤ) → length after ≡ length left → ((i : ℕ) → i < length left → pos 0 ≤ℤ amount_at left i) → ((i : ℕ) → amount_at (set left k (amount_at left k +ℤ more)) i ≤ℤ amount_at after i) → pos 0 ≤ℤ amount_at after k
-    → (i : ℕ) → i < length after → pos 0 ≤ℤ amount_at after i
-turned_low left after k more same low rise here i lt = ⊎_elim
+turned_low : (left after : List ℤ) (k : ℕ) (more : ℤ) → AreAmounts left → ((i : ℕ) → amount_at (set left k (amount_at left k +ℤ more)) i ≤ℤ amount_at after i) → pos 0 ≤ℤ amount_at after k → AreAmounts after
+turned_low left after k more low rise here i = ⊎_elim
     (λ (q : i ≡ k). rw q here)
-    (λ ne. let e = get_or-set_other left k i (amount_at left k +ℤ more) (pos 0) ne in let l = low i (omega (arith, lt, same)) in let r = rise i in omega (arith, ints, e, l, r))
+    (λ ne. let e = get_or-set_other left k i (amount_at left k +ℤ more) (pos 0) ne in let l = low i in let r = rise i in omega (arith, ints, e, l, r))
     (cases_eq i k)
+
+still_low : (left after : List ℤ) → AreAmounts left → ((i : ℕ) → amount_at left i ≤ℤ amount_at after i) → AreAmounts after
+still_low left after low rise i = let l = low i in let r = rise i in omega (arith, ints, l, r)
+
+none_below : (left : List ℤ) → ((k : ℕ) → k < length left → pos 0 ≤ℤ amount_at left k) → AreAmounts left
+none_below [] low k = omega (arith, ints)
+none_below (a ∷ left) low zero = low 0 (omega arith)
+none_below (a ∷ left) low (suc k) = none_below left (λ i lt. low (suc i) (omega (arith, lt))) k
 
 -- amounts that stand leave no less than nothing
 module _ (demands capacities : List ℤ) (whos slots : List ℕ) (y lacks rooms : List ℤ) (h : IsStanding demands capacities whos slots y lacks rooms) where
   pub standing_within : AreWithin whos slots y lacks rooms
   standing_within = record { demands = demands; capacities = capacities; cells = h.cells; bounded = h.bounded; part = h.part; lacks_are = h.lacks_are; rooms_are = h.rooms_are }
 
-  pub standing_lacks : (i : ℕ) → i < length lacks → pos 0 ≤ℤ amount_at lacks i
-  standing_lacks = left_low demands whos y lacks h.lacks_are h.part.got
+  standing_lacks : AreAmounts lacks
+  standing_lacks = none_below lacks (left_low demands whos y lacks h.lacks_are h.part.got)
 
-  pub standing_rooms : (s : ℕ) → s < length rooms → pos 0 ≤ℤ amount_at rooms s
-  standing_rooms = left_low capacities slots y rooms h.rooms_are h.part.within
+  standing_rooms : AreAmounts rooms
+  standing_rooms = none_below rooms (left_low capacities slots y rooms h.rooms_are h.part.within)
 
   pub standing_pouring : IsPouring demands capacities whos slots y y lacks rooms
   standing_pouring = pouring_begun demands capacities whos slots y lacks rooms h.part h.lacks_are h.rooms_are
 
--- amounts that were lowered until nothing is too much stand
-lowered_stands : (demands capacities : List ℤ) (whos slots : List ℕ) (y lacks rooms : List ℤ) → AreCells (length demands) (length capacities) whos slots → All IsAmount demands → All IsCapacity capacities → IsCharge demands capacities whos slots y lacks rooms
-    → ((i : ℕ) → i < length lacks → pos 0 ≤ℤ amount_at lacks i) → ((s : ℕ) → s < length rooms → pos 0 ≤ℤ amount_at rooms s) → IsStanding demands capacities whos slots y lacks rooms
-lowered_stands demands capacities whos slots y lacks rooms cells asked bounded h few fits = record {
-  cells = cells;
-  asked = asked;
-  bounded = bounded;
-  part = charge_part demands capacities whos slots y lacks rooms h few fits;
-  lacks_are = h.lacks_are;
-  rooms_are = h.rooms_are;
-}
+-- amounts that may be too much for demands and capacities within their own bounds
+record AreOver (demands capacities : List ℤ) (whos slots : List ℕ) (y lacks rooms : List ℤ) : Type 0 where
+  cells : AreCells (length demands) (length capacities) whos slots
+  asked : All IsAmount demands
+  bounded : All IsCapacity capacities
+  charge : IsCharge demands capacities whos slots y lacks rooms
 
--- a slot is to hold so much more, or less
-module _ (demands capacities : List ℤ) (whos slots : List ℕ) (y lacks rooms : List ℤ) (s : ℕ) (more : ℤ) (h : MayHold demands capacities whos slots y lacks rooms s more) where
-  abbrev held : List ℤ
-  held = set capacities s (amount_at capacities s +ℤ more)
-
-  abbrev rooms' : List ℤ
-  rooms' = set rooms s (amount_at rooms s +ℤ more)
-
-  held_cells : AreCells (length demands) (length held) whos slots
-  held_cells = rw (length-set capacities s (amount_at capacities s +ℤ more)) h.stands.cells
-
-  held_bounded : All IsCapacity held
-  held_bounded = All-set IsCapacity capacities s (amount_at capacities s +ℤ more) h.after h.stands.bounded
-
-  pub hold_place : s < length rooms
-  hold_place = let p = h.stands.rooms_are.places in let lt = h.place in omega (arith, lt, p)
-
-  hold_least : pos 0 ≤ℤ (more +ℤ pos (10 ^ 32))
-  hold_least =
-      let a = h.after.low in
-      let b = (All-get_or IsCapacity capacities s (pos 0) h.place h.stands.bounded).high in
-      omega (arith, ints, a, b)
-
-  -- the change fits
-  pub hold_fits : FitsSigned w128 more
-  hold_fits =
-      let a = h.after.low in
-      let b = h.after.high in
-      let e = All-get_or IsCapacity capacities s (pos 0) h.place h.stands.bounded in
-      let l = e.low in
-      let t = e.high in
-      omega (arith, ints, a, b, l, t)
-
-  pub hold_low : pos 0 ≤ℤ (amount_at rooms s +ℤ more +ℤ pos (10 ^ 32))
-  hold_low = let l = standing_rooms demands capacities whos slots y lacks rooms h.stands s hold_place in let m = hold_least in omega (arith, ints, l, m)
-
-  pub hold_high : (amount_at rooms s +ℤ more) ≤ℤ pos (10 ^ 32)
-  hold_high =
-      let r = h.stands.rooms_are.each s h.place in
-      let g = sum_at-low s slots y h.stands.part.amounts in
-      let a = h.after.high in
-      omega (arith, ints, r, g, a)
-
-  hold_charge : IsCharge demands held whos slots y lacks rooms'
-  hold_charge = record { cells = h.stands.part.cells; amounts = h.stands.part.amounts; lacks_are = h.stands.lacks_are; rooms_are = left_turned capacities slots y rooms s more h.place h.stands.rooms_are }
-
-  pub hold_charged : AreCharged whos slots y lacks rooms'
-  hold_charged = record {
-    demands = demands;
-    capacities = held;
-    cells = held_cells;
-    asked = h.stands.asked;
-    bounded = held_bounded;
-    charge = hold_charge;
-    lacks_small = λ i lt. let l = standing_lacks demands capacities whos slots y lacks rooms h.stands i lt in omega (arith, ints, l);
-    rooms_small = turned_small rooms s more hold_place (standing_rooms demands capacities whos slots y lacks rooms h.stands) hold_least;
-  }
-
-  pub hold_stands : (z lacks'' rooms'' : List ℤ) → AreLowered whos slots y lacks rooms' z lacks'' rooms'' → pos 0 ≤ℤ amount_at rooms'' s → IsStanding demands held whos slots z lacks'' rooms''
-  hold_stands z lacks'' rooms'' r here =
-      let p = lowered_lacks whos slots y lacks rooms' hold_charged z lacks'' rooms'' r in
-      let q = lowered_rooms whos slots y lacks rooms' hold_charged z lacks'' rooms'' r ∙ length-set rooms s (amount_at rooms s +ℤ more) in
-      lowered_stands demands held whos slots z lacks'' rooms'' held_cells h.stands.asked held_bounded (r.each demands held held_cells hold_charge)
-      (λ i lt. let l = standing_lacks demands capacities whos slots y lacks rooms h.stands i (omega (arith, lt, p)) in let u = r.lacks_rise i in omega (arith, ints, l, u))
-      (turned_low rooms rooms'' s more q (standing_rooms demands capacities whos slots y lacks rooms h.stands) r.rooms_rise here)
-
--- a demand is to ask for so much more, or less
-module _ (demands capacities : List ℤ) (whos slots : List ℕ) (y lacks rooms : List ℤ) (i : ℕ) (more : ℤ) (h : MayAsk demands capacities whos slots y lacks rooms i more) where
-  abbrev asked : List ℤ
-  asked = set demands i (amount_at demands i +ℤ more)
-
-  abbrev lacks' : List ℤ
-  lacks' = set lacks i (amount_at lacks i +ℤ more)
-
-  asked_cells : AreCells (length asked) (length capacities) whos slots
-  asked_cells = rw (length-set demands i (amount_at demands i +ℤ more)) h.stands.cells
-
-  asked_amounts : All IsAmount asked
-  asked_amounts = All-set IsAmount demands i (amount_at demands i +ℤ more) h.after h.stands.asked
-
-  pub ask_place : i < length lacks
-  ask_place = let p = h.stands.lacks_are.places in let lt = h.place in omega (arith, lt, p)
-
-  ask_least : pos 0 ≤ℤ (more +ℤ pos (10 ^ 32))
-  ask_least =
-      let a = h.after.low in
-      let b = (All-get_or IsAmount demands i (pos 0) h.place h.stands.asked).high in
-      omega (arith, ints, a, b)
-
-  -- the change fits
-  pub ask_fits : FitsSigned w128 more
-  ask_fits =
-      let a = h.after.low in
-      let b = h.after.high in
-      let e = All-get_or IsAmount demands i (pos 0) h.place h.stands.asked in
-      let l = e.low in
-      let t = e.high in
-      omega (arith, ints, a, b, l, t)
-
-  pub ask_low : pos 0 ≤ℤ (amount_at lacks i +ℤ more +ℤ pos (10 ^ 32))
-  ask_low = let l = standing_lacks demands capacities whos slots y lacks rooms h.stands i ask_place in let m = ask_least in omega (arith, ints, l, m)
-
-  pub ask_high : (amount_at lacks i +ℤ more) ≤ℤ pos (10 ^ 32)
-  ask_high =
-      let r = h.stands.lacks_are.each i h.place in
-      let g = sum_at-low i whos y h.stands.part.amounts in
-      let a = h.after.high in
-      omega (arith, ints, r, g, a)
-
-  ask_charge : IsCharge asked capacities whos slots y lacks' rooms
-  ask_charge = record { cells = h.stands.part.cells; amounts = h.stands.part.amounts; lacks_are = left_turned demands whos y lacks i more h.place h.stands.lacks_are; rooms_are = h.stands.rooms_are }
-
-  pub ask_charged : AreCharged whos slots y lacks' rooms
-  ask_charged = record {
-    demands = asked;
-    capacities = capacities;
-    cells = asked_cells;
-    asked = asked_amounts;
-    bounded = h.stands.bounded;
-    charge = ask_charge;
-    lacks_small = turned_small lacks i more ask_place (standing_lacks demands capacities whos slots y lacks rooms h.stands) ask_least;
-    rooms_small = λ s lt. let l = standing_rooms demands capacities whos slots y lacks rooms h.stands s lt in omega (arith, ints, l);
-  }
-
-  pub ask_stands : (z lacks'' rooms'' : List ℤ) → AreLowered whos slots y lacks' rooms z lacks'' rooms'' → pos 0 ≤ℤ amount_at lacks'' i → IsStanding asked capacities whos slots z lacks'' rooms''
-  ask_stands z lacks'' rooms'' r here =
-      let p = lowered_lacks whos slots y lacks' rooms ask_charged z lacks'' rooms'' r ∙ length-set lacks i (amount_at lacks i +ℤ more) in
-      let q = lowered_rooms whos slots y lacks' rooms ask_charged z lacks'' rooms'' r in
-      lowered_stands asked capacities whos slots z lacks'' rooms'' asked_cells asked_amounts h.stands.bounded (r.each asked capacities asked_cells ask_charge)
-      (turned_low lacks lacks'' i more p (standing_lacks demands capacities whos slots y lacks rooms h.stands) r.lacks_rise here)
-      (λ s lt. let l = standing_rooms demands capacities whos slots y lacks rooms h.stands s (omega (arith, lt, q)) in let u = r.rooms_rise s in omega (arith, ints, l, u))
-
--- totals of which the first k are new, and the others as before
-pub record AreTurned (totals before now : List ℤ) (k : ℕ) : Type 0 where
-  pub places : length now ≡ length totals
-  pub done : (i : ℕ) → i < k → amount_at now i ≡ amount_at totals i
-  pub rest : (i : ℕ) → k ≤ i → amount_at now i ≡ amount_at before i
-
-pub turned_none : (totals before : List ℤ) → length before ≡ length totals → AreTurned totals before before 0
-turned_none totals before same = record { places = same; done = λ i lt. absurd (omega (arith, lt)); rest = λ i le. refl }
-
--- the next one changes by so much
-pub turned_more : (totals before now : List ℤ) (k : ℕ) (more : ℤ) → k < length totals → more ≡ (amount_at totals k -ℤ amount_at before k) → AreTurned totals before now k → AreTurned totals before (set now k (amount_at now k +ℤ more)) (k + 1)
-turned_more totals before now k more lt is h =
-    let p = h.places in
-    let v = amount_at now k +ℤ more in
+-- lowered until nothing is too much, they stand
+over_stands : (demands capacities : List ℤ) (whos slots : List ℕ) (y lacks rooms : List ℤ) → AreOver demands capacities whos slots y lacks rooms
+    → (z lacks' rooms' : List ℤ) → AreLowered whos slots y lacks rooms z lacks' rooms' → AreAmounts lacks' → AreAmounts rooms' → IsStanding demands capacities whos slots z lacks' rooms'
+over_stands demands capacities whos slots y lacks rooms over z lacks' rooms' r few fits =
+    let charge = r.each demands capacities over.cells over.charge in
     record {
-      places = length-set now k v ∙ h.places;
-      done = λ i less. ⊎_elim
-          (λ (q : i ≡ k). let s = get_or-set_same now k v (pos 0) (omega (arith, lt, p)) in let r = h.rest k (omega arith) in rw q (omega (arith, ints, s, r, is)))
-          (λ ne. get_or-set_other now k i v (pos 0) ne ∙ h.done i (omega (arith, less, ne)))
-          (cases_eq i k);
-      rest = λ i le. get_or-set_other now k i v (pos 0) (λ q. absurd (omega (arith, le, q))) ∙ h.rest i (omega (arith, le));
+      cells = over.cells;
+      asked = over.asked;
+      bounded = over.bounded;
+      part = record {
+        cells = charge.cells;
+        amounts = charge.amounts;
+        got = λ i lt. let l = few i in let e = charge.lacks_are.each i lt in omega (arith, ints, l, e);
+        within = λ s lt. let l = fits s in let e = charge.rooms_are.each s lt in omega (arith, ints, l, e);
+      };
+      lacks_are = charge.lacks_are;
+      rooms_are = charge.rooms_are;
     }
 
-pub turned_all : (totals before now : List ℤ) (k : ℕ) → length totals ≤ k → AreTurned totals before now k → now ≡ totals
-turned_all totals before now k past h =
+-- a total can change by so much, and what is left of it as well
+pub record CanChange (left : List ℤ) (k : ℕ) (more : ℤ) : Type 0 where
+  pub fits : FitsSigned w128 more
+  pub least : pos 0 ≤ℤ (more +ℤ pos (10 ^ 32))
+  pub put : CanPut left k more
+
+-- a capacity is within the bounds of a demand
+total_amount : (side : Side) (a : ℤ) → IsTotal side a → IsAmount a
+total_amount Demands a h = h
+total_amount Slots a h = let b = h.high in record { low = h.low; high = omega (arith, ints, b) }
+
+can_change : (side : Side) (totals : List ℤ) (labels : List ℕ) (y left : List ℤ) (k : ℕ) (more : ℤ) → All (IsTotal side) totals → AreAmounts y → AreLeft totals labels y left → AreAmounts left → k < length totals → IsTotal side (amount_at totals k +ℤ more)
+    → CanChange left k more
+can_change side totals labels y left k more bounds low h free lt new =
+    let b = total_amount side (amount_at totals k) (All-get_or (IsTotal side) totals k (pos 0) lt bounds) in
+    let a = total_amount side (amount_at totals k +ℤ more) new in
+    let bl = b.low in
+    let bh = b.high in
+    let al = a.low in
+    let ah = a.high in
+    let l = free k in
     let p = h.places in
-    same_lists now totals h.places (λ i d lt. get_or_default now i d (pos 0) lt ∙ (h.done i (omega (arith, lt, p, past)) ∙ get_or_default totals i (pos 0) d (omega (arith, lt, p))))
+    let e = h.each k lt in
+    let g = sum_at-low k labels y low in
+    record {
+      fits = omega (arith, ints, bl, bh, al, ah);
+      least = omega (arith, ints, al, bh);
+      put = record { place = omega (arith, lt, p); low = omega (arith, ints, l, al, bh); high = omega (arith, ints, e, g, ah) };
+    }
 
--- amounts within demands, and within capacities of which the first k are new
-pub record AreHeldTo (demands totals before : List ℤ) (whos slots : List ℕ) (y lacks rooms : List ℤ) (k : ℕ) : Type 0 where
-  pub now : List ℤ
-  pub turned : AreTurned totals before now k
-  pub stands : IsStanding demands now whos slots y lacks rooms
+-- amounts stand, and one total of a side is to change by so much
+module _ (totals others : List ℤ) (whos slots : List ℕ) (y lacks rooms : List ℤ) (k : ℕ) (more : ℤ) where
+  abbrev after : List ℤ
+  after = set totals k (amount_at totals k +ℤ more)
 
--- amounts within capacities, and within demands of which the first k are new
-pub record AreAskedTo (capacities totals before : List ℤ) (whos slots : List ℕ) (y lacks rooms : List ℤ) (k : ℕ) : Type 0 where
-  pub now : List ℤ
-  pub turned : AreTurned totals before now k
-  pub stands : IsStanding now capacities whos slots y lacks rooms
+  side_change : (side : Side) → StandsBy side totals others whos slots y lacks rooms → k < length totals → IsTotal side (amount_at totals k +ℤ more) → CanChange (of_side side lacks rooms) k more
+  side_change Demands h lt new = can_change Demands totals whos y lacks k more h.asked h.part.amounts h.lacks_are (standing_lacks totals others whos slots y lacks rooms h) lt new
+  side_change Slots h lt new = can_change Slots totals slots y rooms k more h.bounded h.part.amounts h.rooms_are (standing_rooms others totals whos slots y lacks rooms h) lt new
 
-module _ (demands totals before : List ℤ) (whos slots : List ℕ) (y lacks rooms : List ℤ) where
-  pub held_begun : length before ≡ length totals → IsStanding demands before whos slots y lacks rooms → AreHeldTo demands totals before whos slots y lacks rooms 0
-  held_begun same h = record { now = before; turned = turned_none totals before same; stands = h }
+  side_over : (side : Side) → StandsBy side totals others whos slots y lacks rooms → k < length totals → IsTotal side (amount_at totals k +ℤ more)
+      → AreOver (of_side side after others) (of_side side others after) whos slots y (lacks_put side lacks k more) (rooms_put side rooms k more)
+  side_over Demands h lt new = record {
+    cells = rw (length-set totals k (amount_at totals k +ℤ more)) h.cells;
+    asked = All-set IsAmount totals k (amount_at totals k +ℤ more) new h.asked;
+    bounded = h.bounded;
+    charge = record { cells = h.part.cells; amounts = h.part.amounts; lacks_are = left_turned totals whos y lacks k more lt h.lacks_are; rooms_are = h.rooms_are };
+  }
+  side_over Slots h lt new = record {
+    cells = rw (length-set totals k (amount_at totals k +ℤ more)) h.cells;
+    asked = h.asked;
+    bounded = All-set IsCapacity totals k (amount_at totals k +ℤ more) new h.bounded;
+    charge = record { cells = h.part.cells; amounts = h.part.amounts; lacks_are = h.lacks_are; rooms_are = left_turned totals slots y rooms k more lt h.rooms_are };
+  }
 
-  pub held_all : (k : ℕ) → length totals ≤ k → AreHeldTo demands totals before whos slots y lacks rooms k → IsStanding demands totals whos slots y lacks rooms
-  held_all k past w = rw (turned_all totals before w.now k past w.turned) at w.stands
+  put_small : (side : Side) → StandsBy side totals others whos slots y lacks rooms → CanChange (of_side side lacks rooms) k more → AreSmall (lacks_put side lacks k more) × AreSmall (rooms_put side rooms k more)
+  put_small Demands h can = (turned_small lacks k more can.put.place (standing_lacks totals others whos slots y lacks rooms h) can.least, still_small rooms (standing_rooms totals others whos slots y lacks rooms h))
+  put_small Slots h can = (still_small lacks (standing_lacks others totals whos slots y lacks rooms h), turned_small rooms k more can.put.place (standing_rooms others totals whos slots y lacks rooms h) can.least)
 
-  module _ (k : ℕ) (more : ℤ) (lt : k < length totals) (is : more ≡ (amount_at totals k -ℤ amount_at before k)) (w : AreHeldTo demands totals before whos slots y lacks rooms k) where
-    pub held_may : All IsCapacity totals → MayHold demands w.now whos slots y lacks rooms k more
-    held_may bounded =
-        let t = w.turned.places in
-        let l = lt in
-        let e = is in
-        let r = w.turned.rest k (omega arith) in
-        let b = All-get_or IsCapacity totals k (pos 0) lt bounded in
-        let low = b.low in
-        let high = b.high in
-        record { stands = w.stands; place = omega (arith, t, l); after = record { low = omega (arith, ints, e, r, low); high = omega (arith, ints, e, r, high) } }
+  put_low : (side : Side) → StandsBy side totals others whos slots y lacks rooms → (z lacks' rooms' : List ℤ) → AreLowered whos slots y (lacks_put side lacks k more) (rooms_put side rooms k more) z lacks' rooms' → pos 0 ≤ℤ amount_at (of_side side lacks' rooms') k
+      → AreAmounts lacks' × AreAmounts rooms'
+  put_low Demands h z lacks' rooms' r here = (turned_low lacks lacks' k more (standing_lacks totals others whos slots y lacks rooms h) r.lacks_rise here, still_low rooms rooms' (standing_rooms totals others whos slots y lacks rooms h) r.rooms_rise)
+  put_low Slots h z lacks' rooms' r here = (still_low lacks lacks' (standing_lacks others totals whos slots y lacks rooms h) r.lacks_rise, turned_low rooms rooms' k more (standing_rooms others totals whos slots y lacks rooms h) r.rooms_rise here)
 
-    pub held_more : (z lacks'' rooms'' : List ℤ) → IsStanding demands (set w.now k (amount_at w.now k +ℤ more)) whos slots z lacks'' rooms'' → AreHeldTo demands totals before whos slots z lacks'' rooms'' (k + 1)
-    held_more z lacks'' rooms'' h = record { now = set w.now k (amount_at w.now k +ℤ more); turned = turned_more totals before w.now k more lt is w.turned; stands = h }
+-- on the side of the change
+pub side_put : (side : Side) (lacks rooms : List ℤ) (k : ℕ) (a : ℤ) → of_side side (lacks_put side lacks k a) (rooms_put side rooms k a) ≡ set (of_side side lacks rooms) k (amount_at (of_side side lacks rooms) k +ℤ a)
+side_put Demands lacks rooms k a = refl
+side_put Slots lacks rooms k a = refl
 
-module _ (capacities totals before : List ℤ) (whos slots : List ℕ) (y lacks rooms : List ℤ) where
-  pub asked_begun : length before ≡ length totals → IsStanding before capacities whos slots y lacks rooms → AreAskedTo capacities totals before whos slots y lacks rooms 0
-  asked_begun same h = record { now = before; turned = turned_none totals before same; stands = h }
+-- ---- all totals of a side change, in order
 
-  pub asked_all : (k : ℕ) → length totals ≤ k → AreAskedTo capacities totals before whos slots y lacks rooms k → IsStanding totals capacities whos slots y lacks rooms
-  asked_all k past w = rw (turned_all totals before w.now k past w.turned) at w.stands
+-- what is known of totals of which the first k are new
+pub record AreTurned (k : ℕ) (totals before : List ℤ) : Type 0 where
+  pub places : length (turned k totals before) ≡ length totals
+  pub next : amount_at (turned k totals before) k ≡ amount_at before k
+  pub more : set (turned k totals before) k (amount_at totals k) ≡ turned (suc k) totals before
+  pub all : length totals ≤ k → turned k totals before ≡ totals
 
-  pub asked_places : (k : ℕ) → AreAskedTo capacities totals before whos slots y lacks rooms k → length lacks ≡ length totals
-  asked_places k w = w.stands.lacks_are.places ∙ w.turned.places
+pub are_turned : (k : ℕ) (totals before : List ℤ) → length before ≡ length totals → AreTurned k totals before
+are_turned k [] (b ∷ before) same = absurd (omega arith)
+are_turned k (t ∷ totals) [] same = absurd (omega arith)
+are_turned zero [] [] same = record { places = refl; next = refl; more = refl; all = λ past. refl }
+are_turned zero (t ∷ totals) (b ∷ before) same = record { places = same; next = refl; more = refl; all = λ past. absurd (omega (arith, past)) }
+are_turned (suc k) [] [] same = record { places = refl; next = refl; more = refl; all = λ past. refl }
+are_turned (suc k) (t ∷ totals) (b ∷ before) same =
+    let r = are_turned k totals before (omega arith) in
+    record { places = ap suc r.places; next = r.next; more = ap (λ rest. t ∷ rest) r.more; all = λ past. ap (λ rest. t ∷ rest) (r.all (omega (arith, past))) }
 
-  module _ (k : ℕ) (more : ℤ) (lt : k < length totals) (is : more ≡ (amount_at totals k -ℤ amount_at before k)) (w : AreAskedTo capacities totals before whos slots y lacks rooms k) where
-    pub asked_may : All IsAmount totals → MayAsk w.now capacities whos slots y lacks rooms k more
-    asked_may amounts =
-        let t = w.turned.places in
-        let l = lt in
-        let e = is in
-        let r = w.turned.rest k (omega arith) in
-        let b = All-get_or IsAmount totals k (pos 0) lt amounts in
-        let low = b.low in
-        let high = b.high in
-        record { stands = w.stands; place = omega (arith, t, l); after = record { low = omega (arith, ints, e, r, low); high = omega (arith, ints, e, r, high) } }
+-- the next total can change by so much; once what is too much then is lowered, amounts stand with it
+pub record IsTurning (side : Side) (totals before others : List ℤ) (whos slots : List ℕ) (y lacks rooms : List ℤ) (k : ℕ) (more : ℤ) : Type 0 where
+  pub can : CanChange (of_side side lacks rooms) k more
+  pub charged : AreCharged whos slots y (lacks_put side lacks k more) (rooms_put side rooms k more)
+  pub stands : (z lacks' rooms' : List ℤ) → AreLowered whos slots y (lacks_put side lacks k more) (rooms_put side rooms k more) z lacks' rooms' → pos 0 ≤ℤ amount_at (of_side side lacks' rooms') k
+      → StandsBy side (turned (k + 1) totals before) others whos slots z lacks' rooms'
 
-    pub asked_more : (z lacks'' rooms'' : List ℤ) → IsStanding (set w.now k (amount_at w.now k +ℤ more)) capacities whos slots z lacks'' rooms'' → AreAskedTo capacities totals before whos slots z lacks'' rooms'' (k + 1)
-    asked_more z lacks'' rooms'' h = record { now = set w.now k (amount_at w.now k +ℤ more); turned = turned_more totals before w.now k more lt is w.turned; stands = h }
+module _ (side : Side) (totals before others : List ℤ) (whos slots : List ℕ) (y lacks rooms : List ℤ) (k : ℕ) (same : length before ≡ length totals) (h : StandsBy side (turned k totals before) others whos slots y lacks rooms) where
+  abbrev now : List ℤ
+  now = turned k totals before
+
+  abbrev more : ℤ
+  more = amount_at totals k -ℤ amount_at before k
+
+  is_new : (amount_at now k +ℤ more) ≡ amount_at totals k
+  is_new = let e = (are_turned k totals before same).next in omega (arith, ints, e)
+
+  next_turned : set now k (amount_at now k +ℤ more) ≡ turned (k + 1) totals before
+  next_turned = rw (is_new, add-one) (are_turned k totals before same).more
+
+  -- a total that stays
+  pub turned_same : amount_at totals k ≡ amount_at before k → StandsBy side (turned (k + 1) totals before) others whos slots y lacks rooms
+  turned_same e =
+      let stays : (amount_at now k +ℤ more) ≡ amount_at now k = omega (arith, ints, e) in
+      rw (← next_turned, stays, set-get_or now k (pos 0)) h
+
+  pub turning : k < length totals → All (IsTotal side) totals → IsTurning side totals before others whos slots y lacks rooms k more
+  turning lt bounded =
+      let p = (are_turned k totals before same).places in
+      let place : k < length now = omega (arith, lt, p) in
+      let new : IsTotal side (amount_at now k +ℤ more) = rw is_new (All-get_or (IsTotal side) totals k (pos 0) lt bounded) in
+      let can = side_change now others whos slots y lacks rooms k more side h place new in
+      let over = side_over now others whos slots y lacks rooms k more side h place new in
+      let small = put_small now others whos slots y lacks rooms k more side h can in
+      record {
+        can = can;
+        charged = record {
+          demands = of_side side (set now k (amount_at now k +ℤ more)) others;
+          capacities = of_side side others (set now k (amount_at now k +ℤ more));
+          cells = over.cells;
+          asked = over.asked;
+          bounded = over.bounded;
+          charge = over.charge;
+          lacks_small = small.0;
+          rooms_small = small.1;
+        };
+        stands = λ z lacks' rooms' r here.
+            let low = put_low now others whos slots y lacks rooms k more side h z lacks' rooms' r here in
+            rw (← next_turned) (over_stands _ _ whos slots y (lacks_put side lacks k more) (rooms_put side rooms k more) over z lacks' rooms' r low.0 low.1);
+      }
 
 -- the demands below k that lack something stay listed where only what k lacks changes
 pub listed_stays : (k : ℕ) (lacks after : List ℤ) (list : List ℕ) → ((j : ℕ) → (j ≡ k → ⊥) → amount_at after j ≡ amount_at lacks j) → ListsBelow k lacks list → ListsBelow k after list

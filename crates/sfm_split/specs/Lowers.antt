@@ -1,9 +1,12 @@
 -- Amounts that may be too much for demands and capacities, how they are lowered, and what other totals they are brought within.
-use Rattle.std.specs.Prelude.{◌≡◌, ℕ, ◌<◌, ◌^◌, List, length, ℤ, pos, ◌+ℤ◌, ◌≤ℤ◌}
+use Rattle.std.specs.Prelude.{◌≡◌, ℕ, ◌<◌, ◌^◌, List, ◌++◌, length, take, drop, slice_set, ℤ, pos, ◌+ℤ◌, ◌≤ℤ◌}
 use Rattle.std.specs.List.{All}
 use Rattle.sfm_split.specs.Splits.{amount_at, IsAmount, IsCapacity}
 use Rattle.sfm_split.specs.Cells.{AreCells, IsPart}
 use Rattle.sfm_split.specs.Search.{AreLeft}
+use Rattle.sfm_split.specs.Sides.{of_side}
+use Rattle.sfm_split.specs.declared.lower.Side.{Side}
+use Rattle.sfm_split.specs.declared.lower.Side.TheVariants.{Demands, Slots}
 
 -- amounts on cells, not negative, and what they leave of demands and of capacities: below nothing where they are too much
 pub record IsCharge (demands capacities : List ℤ) (whos slots : List ℕ) (y lacks rooms : List ℤ) : Type 0 where
@@ -14,7 +17,7 @@ pub record IsCharge (demands capacities : List ℤ) (whos slots : List ℕ) (y l
 
 -- what is left, even where amounts are too much by as much as a demand can ask for
 abbrev pub AreSmall : List ℤ → Type 0
-AreSmall left = (k : ℕ) → k < length left → pos 0 ≤ℤ (amount_at left k +ℤ pos (10 ^ 32))
+AreSmall left = (k : ℕ) → pos 0 ≤ℤ (amount_at left k +ℤ pos (10 ^ 32))
 
 -- amounts on cells, and what they leave of some demands and capacities
 pub record AreCharged (whos slots : List ℕ) (y lacks rooms : List ℤ) : Type 0 where
@@ -43,14 +46,29 @@ pub record IsStanding (demands capacities : List ℤ) (whos slots : List ℕ) (y
   pub lacks_are : AreLeft demands whos y lacks
   pub rooms_are : AreLeft capacities slots y rooms
 
--- a slot is to hold so much more, or less
-pub record MayHold (demands capacities : List ℤ) (whos slots : List ℕ) (y lacks rooms : List ℤ) (s : ℕ) (more : ℤ) : Type 0 where
-  pub stands : IsStanding demands capacities whos slots y lacks rooms
-  pub place : s < length capacities
-  pub after : IsCapacity (amount_at capacities s +ℤ more)
+-- amounts that stand, with the totals of a side and the others of the other side
+abbrev pub StandsBy : Side → List ℤ → List ℤ → List ℕ → List ℕ → List ℤ → List ℤ → List ℤ → Type 0
+StandsBy side totals others = IsStanding (of_side side totals others) (of_side side others totals)
 
--- a demand is to ask for so much more, or less
-pub record MayAsk (demands capacities : List ℤ) (whos slots : List ℕ) (y lacks rooms : List ℤ) (i : ℕ) (more : ℤ) : Type 0 where
-  pub stands : IsStanding demands capacities whos slots y lacks rooms
-  pub place : i < length demands
-  pub after : IsAmount (amount_at demands i +ℤ more)
+-- a total of a side, within its own bounds
+abbrev pub IsTotal : Side → ℤ → Type 0
+IsTotal Demands = IsAmount
+IsTotal Slots = IsCapacity
+
+-- totals of which the first k are new
+abbrev pub turned : ℕ → List ℤ → List ℤ → List ℤ
+turned k totals before = take k totals ++ drop k before
+
+-- what is left of the total k can change by a
+pub record CanPut (left : List ℤ) (k : ℕ) (a : ℤ) : Type 0 where
+  pub place : k < length left
+  pub low : pos 0 ≤ℤ (amount_at left k +ℤ a +ℤ pos (10 ^ 32))
+  pub high : (amount_at left k +ℤ a) ≤ℤ pos (10 ^ 32)
+
+-- what demands lack once it has changed on a side
+abbrev pub lacks_put : Side → List ℤ → ℕ → ℤ → List ℤ
+lacks_put side lacks k a = of_side side (slice_set lacks k (amount_at lacks k +ℤ a)) lacks
+
+-- and what slots have left
+abbrev pub rooms_put : Side → List ℤ → ℕ → ℤ → List ℤ
+rooms_put side rooms k a = of_side side rooms (slice_set rooms k (amount_at rooms k +ℤ a))

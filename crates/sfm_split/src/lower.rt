@@ -3,8 +3,8 @@
 // the amounts on its cells are lowered and given back to their demands and slots. At the end of a chain nothing stands on it, and
 // no demand or capacity is negative, so nothing is too much there. What is left only rises, so what was mended stays so. First
 // all slots are gone through and then all demands, so that what a demand lacks in the end is known once it was passed.
-ghost use Rattle.std.specs.{Prelude.{◌≡◌, ◌≢◌, ℕ, ◌<◌, ◌^◌, List, length, slice_set, ℤ, pos, ◌+ℤ◌, ◌-ℤ◌, ◌≤ℤ◌, OnOk}, List.{All}};
-ghost use Rattle.sfm_split.specs.{Splits.{amount_at, IsAmount, IsCapacity}, Cells.{label_at}, Chains.{AreChains}, Search.{ListsLacking}, Lowers.{AreCharged, AreLowered, IsStanding, MayHold, MayAsk}, Sides.{of_side}, declared.lower.Side.{Side}};
+ghost use Rattle.std.specs.{Prelude.{◌≡◌, ◌≢◌, ℕ, ◌+◌, ◌<◌, ◌^◌, List, length, ℤ, pos, ◌+ℤ◌, ◌-ℤ◌, ◌≤ℤ◌, OnOk}, List.{All}};
+ghost use Rattle.sfm_split.specs.{Splits.{amount_at, IsAmount, IsCapacity}, Cells.{label_at}, Chains.{AreChains}, Search.{ListsLacking}, Lowers.{AreCharged, AreLowered, IsStanding, IsTotal, StandsBy, turned, CanPut, lacks_put, rooms_put}, Sides.{of_side}, declared.lower.Side.{Side}};
 
 use crate::augment::{put, take};
 use crate::cells::Cells;
@@ -34,8 +34,8 @@ fn lower_on(cells: &Cells, e: usize, over: i128, left: &mut Lefts, y: &mut [i128
     let s = cells.slots[e];
     let a = over.min(y[e]);
     take(y, e, a);
-    put(&mut left.lacks, i, a);
-    put(&mut left.rooms, s, a);
+    Side::Demands.put(left, i, a);
+    Side::Slots.put(left, s, a);
 }
 
 /// Of which totals amounts are too much: of the demands, or of the capacities of the slots.
@@ -66,6 +66,20 @@ impl Side {
     {
         let totals = self.of(left);
         -totals[k]
+    }
+
+    /// Adds to what is left of a total of the side.
+    #[inline(always)]
+    fn put(self, left: &mut Lefts, k: usize, a: i128)
+        requires { CanPut (of_side self left.old.lacks.items left.old.rooms.items) k a }
+        ensures lacks { left.new.lacks.items ≡ lacks_put self left.old.lacks.items k a }
+        ensures rooms { left.new.rooms.items ≡ rooms_put self left.old.rooms.items k a }
+        ensures same { left.new.lacking.items ≡ left.old.lacking.items }
+    {
+        match self {
+            Side::Demands => put(&mut left.lacks, k, a),
+            Side::Slots => put(&mut left.rooms, k, a),
+        }
     }
 
     /// The chains of the side.
@@ -105,39 +119,42 @@ fn lower_along(cells: &Cells, side: Side, k: usize, left: &mut Lefts, y: &mut [i
     }
 }
 
-/// Changes what a slot may hold, from one capacity to another, and lowers the amounts on it until it holds no more.
-fn turn_slot(cells: &Cells, s: usize, after: i128, before: i128, left: &mut Lefts, y: &mut [i128])
-    requires { (d : List ℤ) × (c : List ℤ) × MayHold d c cells.now.whos.items cells.now.slots.items
-        y.old left.old.lacks.items left.old.rooms.items s (after -ℤ before) }
-    ensures { (d c : List ℤ) → MayHold d c cells.now.whos.items cells.now.slots.items y.old
-        left.old.lacks.items left.old.rooms.items s (after -ℤ before)
-        → IsStanding d (slice_set c s (amount_at c s +ℤ (after -ℤ before))) cells.now.whos.items
-        cells.now.slots.items y.new left.new.lacks.items left.new.rooms.items }
-{
-    if after == before {
-        return;
-    }
-    put(&mut left.rooms, s, after - before);
-    lower_along(cells, Side::Slots, s, left, y);
+/// Other totals of a side, and those before them.
+#[derive(Clone, Copy)]
+struct Turn<'a> {
+    side: Side,
+    totals: &'a [i128],
+    before: &'a [i128],
 }
 
-/// Changes what a demand asks for, from one amount to another, and lowers its amounts until it gets no more.
-fn turn_demand(cells: &Cells, i: usize, after: i128, before: i128, left: &mut Lefts, y: &mut [i128])
-    requires { (d : List ℤ) × (c : List ℤ) × MayAsk d c cells.now.whos.items cells.now.slots.items
-        y.old left.old.lacks.items left.old.rooms.items i (after -ℤ before) }
-    ensures stands { (d c : List ℤ) → MayAsk d c cells.now.whos.items cells.now.slots.items y.old
-        left.old.lacks.items left.old.rooms.items i (after -ℤ before)
-        → IsStanding (slice_set d i (amount_at d i +ℤ (after -ℤ before))) c cells.now.whos.items
-        cells.now.slots.items y.new left.new.lacks.items left.new.rooms.items }
-    ensures others { (j : ℕ) → j ≢ i → amount_at left.new.lacks.items j
-        ≡ amount_at left.old.lacks.items j }
+/// Puts one total of a side in place of the one before, and lowers the amounts on its cells until they are no more than it. The
+/// totals are gone through in order.
+#[inline(always)]
+fn turn_total(cells: &Cells, turn: &Turn, k: usize, left: &mut Lefts, y: &mut [i128])
+    requires place { k < length turn.now.totals.now }
+    requires same { length turn.now.before.now ≡ length turn.now.totals.now }
+    requires bounded { All (IsTotal turn.now.side) turn.now.totals.now }
+    requires stands { (others : List ℤ) × StandsBy turn.now.side
+        (turned k turn.now.totals.now turn.now.before.now) others cells.now.whos.items
+        cells.now.slots.items y.old left.old.lacks.items left.old.rooms.items }
+    ensures stands { (others : List ℤ) → StandsBy turn.now.side
+        (turned k turn.now.totals.now turn.now.before.now) others cells.now.whos.items
+        cells.now.slots.items y.old left.old.lacks.items left.old.rooms.items
+        → StandsBy turn.now.side (turned (k + 1) turn.now.totals.now turn.now.before.now) others
+        cells.now.whos.items cells.now.slots.items y.new left.new.lacks.items
+        left.new.rooms.items }
+    ensures others { (j : ℕ) → j ≢ k → amount_at
+        (of_side turn.now.side left.new.lacks.items left.new.rooms.items) j
+        ≡ amount_at (of_side turn.now.side left.old.lacks.items left.old.rooms.items) j }
     ensures same { left.new.lacking.items ≡ left.old.lacking.items }
 {
+    let after = turn.totals[k];
+    let before = turn.before[k];
     if after == before {
         return;
     }
-    put(&mut left.lacks, i, after - before);
-    lower_along(cells, Side::Demands, i, left, y);
+    turn.side.put(left, k, after - before);
+    lower_along(cells, turn.side, k, left, y);
 }
 
 /// Puts other capacities in place of those that amounts are within, and lowers the amounts on slots that then hold too much.
@@ -150,7 +167,6 @@ pub(crate) fn turn_slots(
 )
     requires same { length before.now ≡ length capacities.now }
     requires bounded { All IsCapacity capacities.now }
-    requires bounded_before { All IsCapacity before.now }
     requires stands { (d : List ℤ) × IsStanding d before.now cells.now.whos.items
         cells.now.slots.items y.old left.old.lacks.items left.old.rooms.items }
     ensures { (d : List ℤ) → IsStanding d before.now cells.now.whos.items cells.now.slots.items
@@ -158,8 +174,13 @@ pub(crate) fn turn_slots(
         → IsStanding d capacities.now cells.now.whos.items cells.now.slots.items y.new
         left.new.lacks.items left.new.rooms.items }
 {
+    let turn = Turn {
+        side: Side::Slots,
+        totals: capacities,
+        before,
+    };
     for s in 0..capacities.len() {
-        turn_slot(cells, s, capacities[s], before[s], left, y);
+        turn_total(cells, &turn, s, left, y);
     }
 }
 
@@ -174,7 +195,6 @@ pub(crate) fn turn_demands(
 ) -> Result<(), Memory>
     requires same { length before.now ≡ length demands.now }
     requires asked { All IsAmount demands.now }
-    requires asked_before { All IsAmount before.now }
     requires stands { (c : List ℤ) × IsStanding before.now c cells.now.whos.items
         cells.now.slots.items y.old left.old.lacks.items left.old.rooms.items }
     ensures stands { OnOk result ((c : List ℤ) → IsStanding before.now c cells.now.whos.items
@@ -183,9 +203,14 @@ pub(crate) fn turn_demands(
         left.new.lacks.items left.new.rooms.items) }
     ensures listed { OnOk result (ListsLacking left.new.lacks.items left.new.lacking.items) }
 {
+    let turn = Turn {
+        side: Side::Demands,
+        totals: demands,
+        before,
+    };
     left.lacking.clear();
     for i in 0..demands.len() {
-        turn_demand(cells, i, demands[i], before[i], left, y);
+        turn_total(cells, &turn, i, left, y);
         if left.lacks[i] > 0 {
             left.lacking.push(i)?;
         }

@@ -35,7 +35,7 @@ pub excess-over-requires : goal.excess-over-requires
 excess-over-requires c =
     let left = c.loop-at.left in
     let place = in_range (goal.at.excess-over-requires c).At-loop-at in
-    record { place = place; small = side_small c.args.cells.now.whos.items c.args.cells.now.slots.items c.loop-at.y left.lacks.items left.rooms.items c.loop-at.invariant.charged c.args.side c.args.k place }
+    record { place = place; small = side_small c.args.cells.now.whos.items c.args.cells.now.slots.items c.loop-at.y left.lacks.items left.rooms.items c.loop-at.invariant.charged c.args.side c.args.k }
 
 pub lower_on-requires-clause-cell : goal.lower_on-requires-clause-cell
 lower_on-requires-clause-cell c =

@@ -1,10 +1,10 @@
-use Rattle.std.proofs.Common.{◌≡◌, ℕ, List, get_or, length, drop, ℤ, pos, ◌-ℤ◌, ◌≤ℤ◌, ap, refl, sym, ◌∙◌, arith, rules, FitsSigned}
+use Rattle.std.proofs.Common.{◌≡◌, ℕ, List, get_or, ℤ, pos, ◌-ℤ◌, ◌≤ℤ◌, ◌∙◌, arith, rules, FitsSigned}
 use Rattle.std.proofs.lemmas.Int.{ints, clamps, to_z-of_z}
 use Rattle.std.proofs.lemmas.List.{get_or_read}
 use mir.Syntax.{w128}
 use Rattle.sfm_split.specs.Cells.{label_at}
-use Rattle.sfm_split.proofs.Searches.{written}
-use Rattle.sfm_split.proofs.Lowering.{lowered_cell, charged_lacks, charged_rooms, given_back, others_stay}
+use Rattle.sfm_split.specs.declared.lower.Side.TheVariants.{Demands, Slots}
+use Rattle.sfm_split.proofs.Lowering.{lowered_cell, side_give, given_back, others_stay}
 use Rattle.sfm_split.proofs.lower.lower_on.Goals.{After-min-a}
 use Rattle.sfm_split.proofs.lower.lower_on.Goals as goal
 
@@ -52,61 +52,21 @@ take-requires-clause-enough c =
     let fa : FitsSigned w128 a = search rules in
     rw (to_z-of_z w128 a fa) h.most
 
-pub put-requires-clause-low : goal.put-requires-clause-low
-put-requires-clause-low c =
-    let h = taken (goal.at.put-requires-clause-low c).After-min-a in
-    let w = c.requires.charged in
-    let a : ℤ = c.min-a.result in
-    let fa : FitsSigned w128 a = search rules in
-    let inside = w.cells.owned c.args.e c.requires.cell in
-    let places = w.charge.lacks_are.places in
-    let small = w.lacks_small (label_at c.args.cells.now.whos.items c.args.e) (omega (arith, inside, places)) in
-    let low = h.low in
-    rw (c.deref_mut.ensures.value, h.who, to_z-of_z w128 a fa) (omega (arith, ints, small, low))
-
-pub put-requires-clause-place : goal.put-requires-clause-place
-put-requires-clause-place c =
-    let h = taken (goal.at.put-requires-clause-place c).After-min-a in
-    let w = c.requires.charged in
-    let inside = w.cells.owned c.args.e c.requires.cell in
-    let places = w.charge.lacks_are.places in
-    rw (c.deref_mut.ensures.value, h.who) (omega (arith, inside, places))
-
-pub put-requires-2-clause-low : goal.put-requires-2-clause-low
-put-requires-2-clause-low c =
-    let h = taken (goal.at.put-requires-2-clause-low c).After-min-a in
-    let w = c.requires.charged in
-    let a : ℤ = c.min-a.result in
-    let fa : FitsSigned w128 a = search rules in
-    let inside = w.cells.exist c.args.e c.requires.cell in
-    let places = w.charge.rooms_are.places in
-    let small = w.rooms_small (label_at c.args.cells.now.slots.items c.args.e) (omega (arith, inside, places)) in
-    let low = h.low in
-    rw (c.deref_mut-2.ensures.value, h.slot, to_z-of_z w128 a fa) (omega (arith, ints, small, low))
-
-pub put-requires-2-clause-place : goal.put-requires-2-clause-place
-put-requires-2-clause-place c =
-    let h = taken (goal.at.put-requires-2-clause-place c).After-min-a in
-    let w = c.requires.charged in
-    let inside = w.cells.exist c.args.e c.requires.cell in
-    let places = w.charge.rooms_are.places in
-    rw (c.deref_mut-2.ensures.value, h.slot) (omega (arith, inside, places))
-
-pub put-requires-clause-high : goal.put-requires-clause-high
-put-requires-clause-high c =
-    let h = taken (goal.at.put-requires-clause-high c).After-min-a in
+pub put-requires : goal.put-requires
+put-requires c =
+    let h = taken (goal.at.put-requires c).After-min-a in
     let left = c.args.left.now in
     let a : ℤ = c.min-a.result in
     let fa : FitsSigned w128 a = search rules in
-    rw (c.deref_mut.ensures.value, h.who, to_z-of_z w128 a fa) (charged_lacks c.args.cells.now.whos.items c.args.cells.now.slots.items c.args.y.now left.lacks.items left.rooms.items c.requires.charged c.args.e a c.requires.cell h.most)
+    rw (h.who, to_z-of_z w128 a fa) (side_give c.args.cells.now.whos.items c.args.cells.now.slots.items c.args.y.now left.lacks.items left.rooms.items c.requires.charged c.args.e a c.requires.cell h.low h.most Demands)
 
-pub put-requires-2-clause-high : goal.put-requires-2-clause-high
-put-requires-2-clause-high c =
-    let h = taken (goal.at.put-requires-2-clause-high c).After-min-a in
+pub put-requires-2 : goal.put-requires-2
+put-requires-2 c =
+    let h = taken (goal.at.put-requires-2 c).After-min-a in
     let left = c.args.left.now in
     let a : ℤ = c.min-a.result in
     let fa : FitsSigned w128 a = search rules in
-    rw (c.deref_mut-2.ensures.value, h.slot, to_z-of_z w128 a fa) (charged_rooms c.args.cells.now.whos.items c.args.cells.now.slots.items c.args.y.now left.lacks.items left.rooms.items c.requires.charged c.args.e a c.requires.cell h.most)
+    rw (c.put.ensures.rooms, h.slot, to_z-of_z w128 a fa) (side_give c.args.cells.now.whos.items c.args.cells.now.slots.items c.args.y.now left.lacks.items left.rooms.items c.requires.charged c.args.e a c.requires.cell h.low h.most Slots)
 
 pub returns : goal.returns
 returns c =
@@ -123,13 +83,11 @@ returns c =
     let fa : FitsSigned w128 a = search rules in
     let za = to_z-of_z w128 a fa in
     let ty = rw za at c.take.ensures in
-    let tl = rw (c.deref_mut.ensures.value, h.who, za) at c.put.ensures in
-    let tr = rw (c.deref_mut-2.ensures.value, h.slot, za) at c.put-2.ensures in
-    let ql = written c.put.new.to (drop (length c.put.new.to) lacks) left.lacks.len (c.put.auto.to ∙ (ap length c.deref_mut.ensures.value ∙ sym left.lacks.ok.0)) in
-    let qr = written c.put-2.new.to (drop (length c.put-2.new.to) rooms) left.rooms.len (c.put-2.auto.to ∙ (ap length c.deref_mut-2.ensures.value ∙ sym left.rooms.ok.0)) in
-    rw (ql, qr, ty, tl, tr) (record {
+    let tl = rw (h.who, za) at c.put.ensures.lacks in
+    let tr = rw (c.put.ensures.rooms, h.slot, za) at c.put-2.ensures.rooms in
+    rw (ty, c.put-2.ensures.lacks, tl, tr) (record {
       lowered = lowered_cell whos slots y lacks rooms e a lt h.low h.most;
       given = given_back whos slots y lacks rooms c.requires.charged e a c.args.over lt h.all;
       others = others_stay whos slots y lacks rooms e a;
-      same = refl;
+      same = c.put-2.ensures.same ∙ c.put.ensures.same;
     })

@@ -1,12 +1,11 @@
 -- the demands that were passed are new, and those of them that lack something are listed
 use Rattle.std.proofs.Common.{List, ℤ}
 use Rattle.sfm_split.specs.Search.{ListsBelow}
-use Rattle.sfm_split.specs.Lowers.{IsStanding}
-use Rattle.sfm_split.proofs.Lowering.{AreAskedTo}
+use Rattle.sfm_split.specs.Lowers.{IsStanding, turned}
 use Rattle.sfm_split.proofs.lower.turn_demands.Given as goal
 
 abbrev pub invariant-loop-i : goal.invariant-loop-i
 invariant-loop-i l = record {
-  asked : (k : List ℤ) → IsStanding l.before k l.cells.whos.items l.cells.slots.items l.initial.y l.initial.left.lacks.items l.initial.left.rooms.items → AreAskedTo k l.demands l.before l.cells.whos.items l.cells.slots.items l.y l.left.lacks.items l.left.rooms.items l.i;
+  stands : (k : List ℤ) → IsStanding l.before k l.cells.whos.items l.cells.slots.items l.initial.y l.initial.left.lacks.items l.initial.left.rooms.items → IsStanding (turned l.i l.demands l.before) k l.cells.whos.items l.cells.slots.items l.y l.left.lacks.items l.left.rooms.items;
   listed : ListsBelow l.i l.left.lacks.items l.left.lacking.items;
 }
