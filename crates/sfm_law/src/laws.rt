@@ -1,5 +1,5 @@
 // Facts that hold of every term, by its meaning alone. The functions do nothing: each states a fact, and callers' proofs cite it.
-ghost use Rattle.std.specs.{Prelude.{◌≡◌, ◌≢◌, List, ℕ, ◌<◌, length, pos, neg_ℤ, ◌≤ℤ◌}, List.{All}};
+ghost use Rattle.std.specs.{Prelude.{◌≡◌, ◌≢◌, List, ℕ, ◌<◌, length, ℤ, pos, neg_ℤ, ◌≤ℤ◌}, List.{All}};
 ghost use Rattle.sfm_spec.specs.{Blocks.{Block, AreBlocks, Generate}, Families.{meanings, AreBases, ArePlaced, rest_at}, Chains.{ChainLaws}, Labels.{FewWalksLaws}, Laws.{BaseLaws, MoveLaws}, Rows.{LeastTight, RowLaws}, Terms.{times, exchanged, IsBase, TightLaws}, Walks.{Step, AllCanMove, IsShortest, last_of}};
 
 use crate::term::Term;
@@ -33,28 +33,18 @@ pub fn minimisers_from_bases<T: Term>(
 /// Along a joining shortest walk, from its last step to its first, each step can still move an amount that each
 /// step and both ends allow, after the steps behind it have moved; the rows afterwards are bases, and the sum of
 /// min(z, 0) rises by exactly the amount (Fujishige, Submodular Functions and Optimization, section 4).
-pub fn order_of_exchanges<T: Term>(
-    _terms: &[T],
-    _n: usize,
-    _q: i128,
-    _shift: &[i128],
-    _rows: &Rows,
-    _first: usize,
-    _a: i128,
-)
+pub fn order_of_exchanges<T: Term>(_terms: &[T], _n: usize, _q: i128, _shift: &[i128], _rows: &Rows)
     requires factor { pos 0 ≤ℤ _q }
     requires placed { ArePlaced _n (meanings T.places T.value_of _terms.now) }
     requires bases { AreBases _q (meanings T.places T.value_of _terms.now) _rows.now }
-    requires amount { pos 1 ≤ℤ _a }
-    ensures { (steps : List Step) → IsShortest (meanings T.places T.value_of _terms.now) _q
-        _shift.now _rows.now _first steps
-        → AllCanMove (meanings T.places T.value_of _terms.now) _q _rows.now _first steps _a
-        → _a ≤ℤ neg_ℤ (rest_at (meanings T.places T.value_of _terms.now) _rows.now _shift.now
-        _first)
-        → _a ≤ℤ rest_at (meanings T.places T.value_of _terms.now) _rows.now _shift.now
-        (last_of _first steps)
-        → MoveLaws (meanings T.places T.value_of _terms.now) _n _q _shift.now _rows.now _first steps
-        _a }
+    ensures { (first : ℕ) (steps : List Step) (a : ℤ) → pos 1 ≤ℤ a
+        → IsShortest (meanings T.places T.value_of _terms.now) _q _shift.now _rows.now first steps
+        → AllCanMove (meanings T.places T.value_of _terms.now) _q _rows.now first steps a
+        → a ≤ℤ neg_ℤ (rest_at (meanings T.places T.value_of _terms.now) _rows.now _shift.now first)
+        → a ≤ℤ rest_at (meanings T.places T.value_of _terms.now) _rows.now _shift.now
+        (last_of first steps)
+        → MoveLaws (meanings T.places T.value_of _terms.now) _n _q _shift.now _rows.now first steps
+        a }
 {}
 
 /// Along ascending slopes minimisers nest, and what makes a list of slopes and sets all breakpoints in order, over
