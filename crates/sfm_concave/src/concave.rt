@@ -4,14 +4,16 @@
 // are tried from u's own entry on, one size after another: the first that leaves nothing tells the row.
 ghost use Rattle.std.specs.{Prelude.{◌≡◌, ◌≢◌, ◌↔◌, ℕ, ◌+◌, ◌-◌, ◌<◌, ◌≤◌, ◌^◌, Bool, true, false, List, length, slice_index_or, slice_set, ℤ, pos, neg_ℤ, ◌*ℤ◌, ◌+ℤ◌, ◌-ℤ◌, ◌≤ℤ◌, ◌<ℤ◌, IfOk, IfSome, MatchOption, OnOk, IsTrue, Option, Some, Ok, Err}, Int.{int_min}, List.{All}};
 ghost use Rattle.sfm_spec.specs.{Bounds.{IsAtMost, IsEntry, IsFactor, IsGiven, AreElements}, Sets.{Has, whole_set}, Terms.{SetFunction, times, IsBase, IsFamily, IsSubmodular, IsGreedy, exchanged}, Kinds.{concave_value}};
-ghost use Rattle.sfm_law.specs.{Room.{IsRoom, IsReach, IsWithinRoom}, Values.{greatest}};
+ghost use Rattle.sfm_law.specs.{Based.{IsPair}, Room.{IsRoom, IsReach}, Values.{greatest}};
 ghost use Rattle.sfm_concave.specs.{Rankings.{IsRanking}, Thresholds.{above, slack, IsShareOf, IsSomeShare, slack_from, IsLeastSlack, IsBar, IsLastTight, NoneTight, LeavesAbove}, ConcaveLaws.{number_of, scaled, IsFirstRise, NeverRises, gain_of, concave_start, concave-family, concave-submodular, concave-bounded, concave-starts, concave-starts_small}};
 
 use crate::ranking::{FEW, Ranking, RankingArrays, RankingView, count_upto, count_upto_place};
 use crate::rise::first_rise;
 use crate::share::{Share, share_above, share_between, share_beyond, share_from, share_without};
 use sfm_base::{Memory, Numbers, Places, Set};
-use sfm_law::{Room, Term, greatest_magnitude, has_sum, product, put_others_over, write_each};
+use sfm_law::{
+    At, Lead, Room, Swap, Term, greatest_magnitude, has_sum, product, put_others_over, write_each,
+};
 use std::alloc::Global;
 
 /// Why numbers make no concave function.
@@ -165,27 +167,27 @@ impl Concave {
     }
 
     /// What all places but v leave.
-    fn slack_without(&self, q: i128, x: &[i128], v: usize) -> i128
-        requires factor { IsFactor q }
-        requires entries { length x.now ≡ length self.now.places }
-        requires small { All IsEntry x.now }
-        requires onto { v < length x.now }
-        ensures { result ≡ slack (scaled q self.now.values) x.now
-            (slice_set (whole_set (length x.now)) v false) }
+    fn slack_without(&self, at: &At<'_>, v: usize) -> i128
+        requires factor { IsFactor at.now.q }
+        requires entries { length at.now.x.now ≡ length self.now.places }
+        requires small { All IsEntry at.now.x.now }
+        requires onto { v < length at.now.x.now }
+        ensures { result ≡ slack (scaled at.now.q self.now.values) at.now.x.now
+            (slice_set (whole_set (length at.now.x.now)) v false) }
     {
-        self.slack(q, x, share_without(x, v))
+        self.slack(at.q, at.x, share_without(at.x, v))
     }
 
     /// The lesser of a number and what a part with a share leaves.
-    fn lesser_slack(&self, q: i128, x: &[i128], share: Share, least: i128) -> i128
-        requires factor { IsFactor q }
-        requires entries { length x.now ≡ length self.now.places }
-        requires small { All IsEntry x.now }
-        requires share { IsSomeShare share.count share.sum x.now }
-        ensures { (s : List Bool) → IsShareOf share.count share.sum x.now s
-            → result ≡ int_min least (slack (scaled q self.now.values) x.now s) }
+    fn lesser_slack(&self, at: &At<'_>, share: Share, least: i128) -> i128
+        requires factor { IsFactor at.now.q }
+        requires entries { length at.now.x.now ≡ length self.now.places }
+        requires small { All IsEntry at.now.x.now }
+        requires share { IsSomeShare share.count share.sum at.now.x.now }
+        ensures { (s : List Bool) → IsShareOf share.count share.sum at.now.x.now s
+            → result ≡ int_min least (slack (scaled at.now.q self.now.values) at.now.x.now s) }
     {
-        least.min(self.slack(q, x, share))
+        least.min(self.slack(at.q, at.x, share))
     }
 
     /// Whether the places above each entry leave something.
@@ -239,93 +241,85 @@ impl Concave {
     }
 
     /// The least slack of a part with u and not v, by the ranking that is kept if there is one.
-    fn least_slack(&self, q: i128, x: &[i128], note: Option<&Ranking>, u: usize, v: usize) -> i128
-        requires factor { IsFactor q }
-        requires entries { length x.now ≡ length self.now.places }
-        requires small { All IsEntry x.now }
-        requires noted { IfSome note (λ n. IsRanking x.now n.now.sorted.items n.now.sums.items) }
-        requires apart { u ≢ v }
-        requires from { u < length x.now }
-        requires onto { v < length x.now }
-        ensures { IsLeastSlack (scaled q self.now.values) x.now u v result }
+    fn least_slack(&self, at: &At<'_>, note: Option<&Ranking>, u: usize, v: usize) -> i128
+        requires factor { IsFactor at.now.q }
+        requires entries { length at.now.x.now ≡ length self.now.places }
+        requires small { All IsEntry at.now.x.now }
+        requires noted { IfSome note (λ n. IsRanking at.now.x.now n.now.sorted.items
+            n.now.sums.items) }
+        requires pair { IsPair u v at.now.x.now }
+        ensures { IsLeastSlack (scaled at.now.q self.now.values) at.now.x.now u v result }
     {
         if let Some(note) = note {
-            return self.least_slack_by(q, x, note.view(), u, v);
+            return self.least_slack_by(at, note.view(), u, v);
         }
-        if x.len() <= FEW {
-            return self.least_slack_scanned(q, x, u, v);
+        if at.x.len() <= FEW {
+            return self.least_slack_scanned(at, u, v);
         }
-        self.least_slack_ranked(q, x, u, v)
+        self.least_slack_ranked(at, u, v)
     }
 
     /// The same, by a ranking.
-    fn least_slack_ranked(&self, q: i128, x: &[i128], u: usize, v: usize) -> i128
-        requires factor { IsFactor q }
-        requires entries { length x.now ≡ length self.now.places }
-        requires small { All IsEntry x.now }
-        requires apart { u ≢ v }
-        requires from { u < length x.now }
-        requires onto { v < length x.now }
-        ensures { IsLeastSlack (scaled q self.now.values) x.now u v result }
+    fn least_slack_ranked(&self, at: &At<'_>, u: usize, v: usize) -> i128
+        requires factor { IsFactor at.now.q }
+        requires entries { length at.now.x.now ≡ length self.now.places }
+        requires small { All IsEntry at.now.x.now }
+        requires pair { IsPair u v at.now.x.now }
+        ensures { IsLeastSlack (scaled at.now.q self.now.values) at.now.x.now u v result }
     {
-        let ranking = RankingArrays::new(x);
-        self.least_slack_by(q, x, ranking.view(), u, v)
+        let ranking = RankingArrays::new(at.x);
+        self.least_slack_by(at, ranking.view(), u, v)
     }
 
     /// The same, by a look at all entries for each entry.
-    fn least_slack_scanned(&self, q: i128, x: &[i128], u: usize, v: usize) -> i128
-        requires factor { IsFactor q }
-        requires entries { length x.now ≡ length self.now.places }
-        requires small { All IsEntry x.now }
-        requires apart { u ≢ v }
-        requires from { u < length x.now }
-        requires onto { v < length x.now }
-        ensures { IsLeastSlack (scaled q self.now.values) x.now u v result }
+    fn least_slack_scanned(&self, at: &At<'_>, u: usize, v: usize) -> i128
+        requires factor { IsFactor at.now.q }
+        requires entries { length at.now.x.now ≡ length self.now.places }
+        requires small { All IsEntry at.now.x.now }
+        requires pair { IsPair u v at.now.x.now }
+        ensures { IsLeastSlack (scaled at.now.q self.now.values) at.now.x.now u v result }
     {
-        let mut least = self.slack_without(q, x, v);
-        for a in x {
-            let share = share_between(x, share_above(x, None, *a), *a, u, v);
-            least = self.lesser_slack(q, x, share, least);
+        let mut least = self.slack_without(at, v);
+        for a in at.x {
+            let share = share_between(at.x, share_above(at.x, None, *a), *a, u, v);
+            least = self.lesser_slack(at, share, least);
         }
         least
     }
 
     /// The same, by a ranking: one entry after another, from the greatest to the least.
-    fn least_slack_by(&self, q: i128, x: &[i128], ranking: RankingView, u: usize, v: usize) -> i128
-        requires factor { IsFactor q }
-        requires entries { length x.now ≡ length self.now.places }
-        requires small { All IsEntry x.now }
-        requires ranked { IsRanking x.now ranking.sorted.now ranking.sums.now }
-        requires apart { u ≢ v }
-        requires from { u < length x.now }
-        requires onto { v < length x.now }
-        ensures { IsLeastSlack (scaled q self.now.values) x.now u v result }
+    fn least_slack_by(&self, at: &At<'_>, ranking: RankingView, u: usize, v: usize) -> i128
+        requires factor { IsFactor at.now.q }
+        requires entries { length at.now.x.now ≡ length self.now.places }
+        requires small { All IsEntry at.now.x.now }
+        requires ranked { IsRanking at.now.x.now ranking.sorted.now ranking.sums.now }
+        requires pair { IsPair u v at.now.x.now }
+        ensures { IsLeastSlack (scaled at.now.q self.now.values) at.now.x.now u v result }
     {
-        let mut least = self.slack_without(q, x, v);
+        let mut least = self.slack_without(at, v);
         let mut upto = ranking.sorted.len();
         for i in (0..ranking.sorted.len()).rev() {
             upto = count_upto_place(ranking.sorted, i, upto);
             let bar = ranking.sorted[i];
-            let share = share_between(x, share_beyond(x, ranking, bar, upto), bar, u, v);
-            least = self.lesser_slack(q, x, share, least);
+            let share = share_between(at.x, share_beyond(at.x, ranking, bar, upto), bar, u, v);
+            least = self.lesser_slack(at, share, least);
         }
         least
     }
 
     /// The room of (u, v) at a base, by the ranking that is kept beside it if there is one: the least slack of a part with u
     /// and not v.
-    fn room_noted(&self, q: i128, x: &[i128], note: Option<&Ranking>, u: usize, v: usize) -> Room
-        requires factor { IsFactor q }
-        requires entries { length x.now ≡ length self.now.places }
-        requires small { All IsEntry x.now }
-        requires base { IsBase (times q (concave_value self.now.values)) x.now }
-        requires noted { IfSome note (λ n. IsRanking x.now n.now.sorted.items n.now.sums.items) }
-        requires apart { u ≢ v }
-        requires from { u < length x.now }
-        requires onto { v < length x.now }
-        ensures { IsRoom (times q (concave_value self.now.values)) x.now u v result }
+    fn room_noted(&self, at: &At<'_>, note: Option<&Ranking>, u: usize, v: usize) -> Room
+        requires factor { IsFactor at.now.q }
+        requires entries { length at.now.x.now ≡ length self.now.places }
+        requires small { All IsEntry at.now.x.now }
+        requires base { IsBase (times at.now.q (concave_value self.now.values)) at.now.x.now }
+        requires noted { IfSome note (λ n. IsRanking at.now.x.now n.now.sorted.items
+            n.now.sums.items) }
+        requires pair { IsPair u v at.now.x.now }
+        ensures { IsRoom (times at.now.q (concave_value self.now.values)) at.now.x.now u v result }
     {
-        Room::Upto(self.least_slack(q, x, note, u, v))
+        Room::Upto(self.least_slack(at, note, u, v))
     }
 
     /// The room of (u, v) at a base: the least slack of a part with u and not v.
@@ -339,47 +333,48 @@ impl Concave {
         requires onto { v < length x.now }
         ensures { IsRoom (times q (concave_value self.now.values)) x.now u v result }
     {
-        self.room_noted(q, x, None, u, v)
+        self.room_noted(&At { q, x }, None, u, v)
     }
 
     /// What all places but the i least leave.
-    fn slack_from(&self, q: i128, x: &[i128], ranking: RankingView, i: usize) -> i128
-        requires factor { IsFactor q }
-        requires entries { length x.now ≡ length self.now.places }
-        requires small { All IsEntry x.now }
-        requires ranked { IsRanking x.now ranking.sorted.now ranking.sums.now }
+    fn slack_from(&self, at: &At<'_>, ranking: RankingView, i: usize) -> i128
+        requires factor { IsFactor at.now.q }
+        requires entries { length at.now.x.now ≡ length self.now.places }
+        requires small { All IsEntry at.now.x.now }
+        requires ranked { IsRanking at.now.x.now ranking.sorted.now ranking.sums.now }
         requires place { i ≤ length ranking.sorted.now }
-        ensures { result ≡ slack_from (scaled q self.now.values) ranking.entry.sorted.now i }
+        ensures { result ≡ slack_from (scaled at.now.q self.now.values) ranking.entry.sorted.now i }
     {
-        let rest = share_from(x, ranking, i);
-        self.scaled(q, rest.count) - rest.sum
+        let rest = share_from(at.x, ranking, i);
+        self.scaled(at.q, rest.count) - rest.sum
     }
 
     /// Whether all places but the i least leave nothing.
-    fn is_tight(&self, q: i128, x: &[i128], ranking: RankingView, i: usize) -> bool
-        requires factor { IsFactor q }
-        requires entries { length x.now ≡ length self.now.places }
-        requires small { All IsEntry x.now }
-        requires ranked { IsRanking x.now ranking.sorted.now ranking.sums.now }
+    fn is_tight(&self, at: &At<'_>, ranking: RankingView, i: usize) -> bool
+        requires factor { IsFactor at.now.q }
+        requires entries { length at.now.x.now ≡ length self.now.places }
+        requires small { All IsEntry at.now.x.now }
+        requires ranked { IsRanking at.now.x.now ranking.sorted.now ranking.sums.now }
         requires place { i ≤ length ranking.sorted.now }
-        ensures { IsTrue result ↔ (slack_from (scaled q self.now.values) ranking.entry.sorted.now i
-            ≡ pos 0) }
+        ensures { IsTrue result ↔ (slack_from (scaled at.now.q self.now.values)
+            ranking.entry.sorted.now i ≡ pos 0) }
     {
-        self.slack_from(q, x, ranking, i) == 0
+        self.slack_from(at, ranking, i) == 0
     }
 
     /// The last number before `own`, but for 0, for which this is so, if there is one.
-    fn last_tight(&self, q: i128, x: &[i128], ranking: RankingView, own: usize) -> Option<usize>
-        requires factor { IsFactor q }
-        requires entries { length x.now ≡ length self.now.places }
-        requires small { All IsEntry x.now }
-        requires ranked { IsRanking x.now ranking.sorted.now ranking.sums.now }
+    fn last_tight(&self, at: &At<'_>, ranking: RankingView, own: usize) -> Option<usize>
+        requires factor { IsFactor at.now.q }
+        requires entries { length at.now.x.now ≡ length self.now.places }
+        requires small { All IsEntry at.now.x.now }
+        requires ranked { IsRanking at.now.x.now ranking.sorted.now ranking.sums.now }
         requires place { own ≤ length ranking.sorted.now }
-        ensures { MatchOption result (NoneTight (scaled q self.now.values) ranking.entry.sorted.now
-            own) (IsLastTight (scaled q self.now.values) ranking.entry.sorted.now own) }
+        ensures { MatchOption result (NoneTight (scaled at.now.q self.now.values)
+            ranking.entry.sorted.now own) (IsLastTight (scaled at.now.q self.now.values)
+            ranking.entry.sorted.now own) }
     {
         for i in (1..own).rev() {
-            if self.is_tight(q, x, ranking, i) {
+            if self.is_tight(at, ranking, i) {
                 return Some(i);
             }
         }
@@ -388,65 +383,67 @@ impl Concave {
 
     /// The greatest entry to which u has no room at a base, if there is one. It is u's own where u and the places above u leave
     /// nothing; else the one below the last place before u's, in ascending order, from which on the places leave nothing.
-    fn bar_by(&self, q: i128, x: &[i128], ranking: RankingView, u: usize) -> Option<i128>
-        requires factor { IsFactor q }
-        requires entries { length x.now ≡ length self.now.places }
-        requires small { All IsEntry x.now }
-        requires base { IsBase (times q (concave_value self.now.values)) x.now }
-        requires ranked { IsRanking x.now ranking.sorted.now ranking.sums.now }
-        requires from { u < length x.now }
-        ensures { IsBar (scaled q self.now.values) x.now u result }
+    fn bar_by(&self, at: &At<'_>, ranking: RankingView, u: usize) -> Option<i128>
+        requires factor { IsFactor at.now.q }
+        requires entries { length at.now.x.now ≡ length self.now.places }
+        requires small { All IsEntry at.now.x.now }
+        requires base { IsBase (times at.now.q (concave_value self.now.values)) at.now.x.now }
+        requires ranked { IsRanking at.now.x.now ranking.sorted.now ranking.sums.now }
+        requires from { u < length at.now.x.now }
+        ensures { IsBar (scaled at.now.q self.now.values) at.now.x.now u result }
     {
-        let own = count_upto(ranking.sorted, x[u]) - 1;
-        if self.is_tight(q, x, ranking, own) {
-            return Some(x[u]);
+        let own = count_upto(ranking.sorted, at.x[u]) - 1;
+        if self.is_tight(at, ranking, own) {
+            return Some(at.x[u]);
         }
-        let i = self.last_tight(q, x, ranking, own)?;
+        let i = self.last_tight(at, ranking, own)?;
         Some(ranking.sorted[i - 1])
     }
 
     /// The same, by a ranking that is made for it.
-    fn bar_made(&self, q: i128, x: &[i128], u: usize) -> Option<i128>
-        requires factor { IsFactor q }
-        requires entries { length x.now ≡ length self.now.places }
-        requires small { All IsEntry x.now }
-        requires base { IsBase (times q (concave_value self.now.values)) x.now }
-        requires from { u < length x.now }
-        ensures { IsBar (scaled q self.now.values) x.now u result }
+    fn bar_made(&self, at: &At<'_>, u: usize) -> Option<i128>
+        requires factor { IsFactor at.now.q }
+        requires entries { length at.now.x.now ≡ length self.now.places }
+        requires small { All IsEntry at.now.x.now }
+        requires base { IsBase (times at.now.q (concave_value self.now.values)) at.now.x.now }
+        requires from { u < length at.now.x.now }
+        ensures { IsBar (scaled at.now.q self.now.values) at.now.x.now u result }
     {
-        let ranking = RankingArrays::new(x);
-        self.bar_by(q, x, ranking.view(), u)
+        let ranking = RankingArrays::new(at.x);
+        self.bar_by(at, ranking.view(), u)
     }
 
     /// The same, by the ranking that is kept if there is one.
-    fn bar(&self, q: i128, x: &[i128], note: Option<&Ranking>, u: usize) -> Option<i128>
-        requires factor { IsFactor q }
-        requires entries { length x.now ≡ length self.now.places }
-        requires small { All IsEntry x.now }
-        requires base { IsBase (times q (concave_value self.now.values)) x.now }
-        requires noted { IfSome note (λ n. IsRanking x.now n.now.sorted.items n.now.sums.items) }
-        requires from { u < length x.now }
-        ensures { IsBar (scaled q self.now.values) x.now u result }
+    fn bar(&self, at: &At<'_>, note: Option<&Ranking>, u: usize) -> Option<i128>
+        requires factor { IsFactor at.now.q }
+        requires entries { length at.now.x.now ≡ length self.now.places }
+        requires small { All IsEntry at.now.x.now }
+        requires base { IsBase (times at.now.q (concave_value self.now.values)) at.now.x.now }
+        requires noted { IfSome note (λ n. IsRanking at.now.x.now n.now.sorted.items
+            n.now.sums.items) }
+        requires from { u < length at.now.x.now }
+        ensures { IsBar (scaled at.now.q self.now.values) at.now.x.now u result }
     {
         match note {
-            Some(note) => self.bar_by(q, x, note.view(), u),
-            None => self.bar_made(q, x, u),
+            Some(note) => self.bar_by(at, note.view(), u),
+            None => self.bar_made(at, u),
         }
     }
 
     /// Writes the places other than u to which u has room at a base, by the ranking that is kept beside it if there is one:
     /// those above the greatest entry to which it has none.
-    fn reach_noted(&self, q: i128, x: &[i128], note: Option<&Ranking>, u: usize, to: &mut Set)
-        requires factor { IsFactor q }
-        requires entries { length x.now ≡ length self.now.places }
-        requires small { All IsEntry x.now }
-        requires base { IsBase (times q (concave_value self.now.values)) x.now }
-        requires noted { IfSome note (λ n. IsRanking x.now n.now.sorted.items n.now.sums.items) }
-        requires from { u < length x.now }
-        requires room_for_answer { length to.old ≡ length x.now }
-        ensures { IsReach (times q (concave_value self.now.values)) x.now u to.new }
+    fn reach_noted(&self, at: &At<'_>, note: Option<&Ranking>, u: usize, to: &mut Set)
+        requires factor { IsFactor at.now.q }
+        requires entries { length at.now.x.now ≡ length self.now.places }
+        requires small { All IsEntry at.now.x.now }
+        requires base { IsBase (times at.now.q (concave_value self.now.values)) at.now.x.now }
+        requires noted { IfSome note (λ n. IsRanking at.now.x.now n.now.sorted.items
+            n.now.sums.items) }
+        requires from { u < length at.now.x.now }
+        requires room_for_answer { length to.old ≡ length at.now.x.now }
+        ensures { IsReach (times at.now.q (concave_value self.now.values)) at.now.x.now u to.new }
     {
-        put_others_over(x, u, self.bar(q, x, note, u), to);
+        put_others_over(at.x, u, self.bar(at, note, u), to);
     }
 
     /// Writes the places other than u to which u has room at a base: those above the greatest entry to which it has none.
@@ -460,7 +457,7 @@ impl Concave {
         ensures places { length to.new ≡ length to.old }
         ensures reached { IsReach (times q (concave_value self.now.values)) x.now u to.new }
     {
-        self.reach_noted(q, x, None, u, to);
+        self.reach_noted(&At { q, x }, None, u, to);
     }
 }
 
@@ -512,69 +509,50 @@ impl Term for Concave {
         Ok(self.is_base_of(q, x))
     }
 
-    fn room(
-        &self,
-        _alloc: Global,
-        q: i128,
-        x: &[i128],
-        u: usize,
-        v: usize,
-    ) -> Result<Room, Memory> {
-        Ok(self.room_of(q, x, u, v))
+    fn room(&self, _alloc: Global, at: &At<'_>, u: usize, v: usize) -> Result<Room, Memory> {
+        Ok(self.room_noted(at, None, u, v))
     }
 
-    fn reach(
-        &self,
-        _alloc: Global,
-        q: i128,
-        x: &[i128],
-        u: usize,
-        to: &mut Set,
-    ) -> Result<(), Memory> {
-        self.reach_of(q, x, u, to);
+    fn reach(&self, _alloc: Global, at: &At<'_>, u: usize, to: &mut Set) -> Result<(), Memory> {
+        self.reach_noted(at, None, u, to);
         Ok(())
     }
 
-    fn note(&self, alloc: Global, _q: i128, x: &[i128]) -> Result<Ranking, Memory> {
-        Ranking::new(alloc, x)
+    fn note(&self, alloc: Global, at: &At<'_>) -> Result<Ranking, Memory> {
+        Ranking::new(alloc, at.x)
     }
 
     fn reach_by(
         &self,
         _alloc: Global,
-        q: i128,
-        x: &[i128],
+        at: &At<'_>,
         note: &mut Ranking,
-        u: usize,
+        lead: &Lead,
         to: &mut Set,
     ) -> Result<(), Memory> {
-        self.reach_noted(q, x, Some(note), u, to);
+        self.reach_noted(at, Some(note), lead.from, to);
         Ok(())
     }
 
     fn room_by(
         &self,
         _alloc: Global,
-        q: i128,
-        x: &[i128],
+        at: &At<'_>,
         note: &mut Ranking,
         u: usize,
         v: usize,
     ) -> Result<Room, Memory> {
-        Ok(self.room_noted(q, x, Some(note), u, v))
+        Ok(self.room_noted(at, Some(note), u, v))
     }
 
     fn moved(
         &self,
         _alloc: Global,
-        _q: i128,
-        x: &[i128],
+        at: &At<'_>,
         note: &mut Ranking,
-        u: usize,
-        v: usize,
-        a: i128,
+        swap: &Swap,
     ) -> Result<(), Memory> {
-        note.exchange(x, u, v, a);
+        note.exchange(at.x, swap);
         Ok(())
     }
 }

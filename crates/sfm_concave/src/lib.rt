@@ -1,4 +1,4 @@
-// Each has its calls without an allocator, to which the trait's calls pass on.
+// Each has its calls without an allocator.
 #![tactic(auto)]
 
 pub mod concave;

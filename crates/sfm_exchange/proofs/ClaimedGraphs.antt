@@ -15,7 +15,7 @@ use Rattle.sfm_law.proofs.Lists.{all-at, meanings-at, length-meanings, length-ba
 use Rattle.sfm_reach.specs.declared.bits.Bits.{Bits}
 use Rattle.sfm_exchange.specs.declared.graph.Graph.{Graph}
 use Rattle.sfm_exchange.specs.declared.renewing.Changes.{Changes}
-use Rattle.sfm_reach.specs.Based.{IsBased}
+use Rattle.sfm_reach.specs.Based.{IsPlacedBase}
 use Rattle.sfm_reach.specs.Bits.{bit_in, blank_bits, set_at}
 use Rattle.sfm_exchange.specs.Claimed.{AreClaims, IsClaim}
 use Rattle.sfm_exchange.specs.Graph.{IsClaimed, IsShaped, IsWhole}
@@ -105,7 +105,7 @@ module _ {X N : Type 0} {places : X → List ℕ} {value : X → SetFunction} {s
     distinct_at = subst AreDistinct (sym places_are) placed.distinct
 
     -- its row is a base within the bounds
-    pub based : ((x : X) → pos 0 ≤ℤ size x) → All IsEntry (base_at graph.bases i) → IsBased places value size term q (base_at graph.bases i)
+    pub based : ((x : X) → pos 0 ≤ℤ size x) → All IsEntry (base_at graph.bases i) → IsPlacedBase places value size term q (base_at graph.bases i)
     based sound small = is_based places value size sound terms n q graph.bases h.bounded h.factor h.are_bases i l term is small
 
     -- there is an entry for each of its places
@@ -157,14 +157,14 @@ module _ {X N : Type 0} {places : X → List ℕ} {value : X → SetFunction} {s
         (λ j ne. get_or-set_other graph.rows.items i j rows [] ne) (rw (places_are, here) changed) renewed (rw (places_are, here) widened)
 
     -- with another row of the term, and other rows of reach
-    pub claimed_after : (x : List ℤ) (note : Option N) (rows : List Bits) (claimed : Bits) (graph' : Graph N) → IsBased places value size term q x → kept_fits fits term note q x → length rows ≡ length (places term)
+    pub claimed_after : (x : List ℤ) (note : Option N) (rows : List Bits) (claimed : Bits) (graph' : Graph N) → IsPlacedBase places value size term q x → kept_fits fits term note q x → length rows ≡ length (places term)
         → AreClaims (places term) (times q (value term)) x claimed rows → AreUnions (set graph.rows.items i rows) graph.spots.items graph'.unions.items → AreTurned graph'.unions.items graph'.back.items
         → graph'.bases ≡ set graph.bases i x → graph'.spots.items ≡ graph.spots.items → graph'.notes.items ≡ set graph.notes.items i note → graph'.rows.items ≡ set graph.rows.items i rows → graph'.claimed.items ≡ set graph.claimed.items i claimed
         → IsClaimed places value size fits terms n q graph'
     claimed_after x note rows claimed graph' at noted long told united turned bases_are spots_are notes_are rows_are claimed_are = record {
       bounded = h.bounded;
       factor = h.factor;
-      are_bases = rw bases_are (bases_set q (meanings places value terms) graph.bases i x h.are_bases li (at.entries ∙ ap length (sym places_are)) (rw means at.base));
+      are_bases = rw bases_are (bases_set q (meanings places value terms) graph.bases i x h.are_bases li (at.based.entries ∙ ap length (sym places_are)) (rw means at.based.base));
       note_count = ap length notes_are ∙ (length-set graph.notes.items i note ∙ h.note_count);
       claim_count = ap length claimed_are ∙ (length-set graph.claimed.items i claimed ∙ h.claim_count);
       noted = rw (notes_are, bases_are) (notes_set (kept_fits fits) q terms graph.notes.items graph.bases i term note x h.note_count base_count l h.noted is noted);

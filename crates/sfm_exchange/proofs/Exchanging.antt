@@ -143,10 +143,7 @@ module _ (terms : List Meaning) (n : ℕ) (q : ℤ) (fit : AreTerms n terms) (in
     term_in = named'.term_in;
     small = moved_small d falls small high (suc k) rows h i li;
     after = subst (All IsEntry) (get_or-set_same rows i y [] lr) (moved_small d falls small high k (set rows i y) (exchange_moved bases k rows h) i li);
-    apart = next_apart k rows h;
-    raised = rw (row_base k rows h).0 named'.u_in;
-    lowered = rw (row_base k rows h).0 named'.v_in;
-    room = next_room k rows h;
+    swap = record { apart = next_apart k rows h; from = rw (row_base k rows h).0 named'.u_in; onto = rw (row_base k rows h).0 named'.v_in; low = omega (arith, ints, one); high = omega (arith, ints, high); room = next_room k rows h };
   } where
     named' : IsHop terms (begin_of first hops k) (hop_at hops k)
     named' = names k rows h

@@ -6,7 +6,7 @@ use Rattle.sfm_spec.specs.Terms.{times, IsBase, HasRoom, exchanged}
 use Rattle.sfm_spec.specs.Families.{Meaning}
 use Rattle.sfm_spec.specs.Walks.{Step, term_at, base_at, IsWalkMove, CanMove, last_of}
 use Rattle.sfm_spec.specs.Labels.{step_code}
-use Rattle.sfm_law.specs.Room.{IsWithinRoom}
+use Rattle.sfm_law.specs.Based.{CanSwap}
 use Rattle.sfm_reach.specs.declared.bits.Bits.{Bits}
 use Rattle.sfm_reach.specs.Bits.{bit_in, set_at}
 use Rattle.sfm_reach.specs.Reach.{table_at}
@@ -73,12 +73,9 @@ abbrev pub AreNamed : List Meaning → ℕ → List Hop → Type 0
 AreNamed terms from [] = Unit {0}
 AreNamed terms from (hop ∷ hops) = IsHop terms from hop × AreNamed terms hop.to hops
 
--- the exchange of the step is within the room, and the entries of the row are within the bounds before it and after it
+-- the exchange of the step can be made, and the entries of the row are within the bounds before it and after it
 pub record CanExchange (terms : List Meaning) (q : ℤ) (rows : List (List ℤ)) (hop : Hop) (a : ℤ) : Type 0 where
   pub term_in : hop.term < length terms
   pub small : All IsEntry (base_at rows hop.term)
   pub after : All IsEntry (exchanged (base_at rows hop.term) hop.u hop.v a)
-  pub apart : hop.u ≢ hop.v
-  pub raised : hop.u < length (base_at rows hop.term)
-  pub lowered : hop.v < length (base_at rows hop.term)
-  pub room : IsWithinRoom (times q (term_at terms hop.term).value) (base_at rows hop.term) hop.u hop.v a
+  pub swap : CanSwap (times q (term_at terms hop.term).value) (base_at rows hop.term) hop.u hop.v a

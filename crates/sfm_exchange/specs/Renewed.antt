@@ -4,6 +4,7 @@ use Rattle.sfm_spec.specs.Terms.{SetFunction, IsBase, exchanged}
 use Rattle.sfm_reach.specs.declared.bits.Bits.{Bits}
 use Rattle.sfm_exchange.specs.declared.renewing.Changes.{Changes}
 use Rattle.sfm_exchange.specs.declared.renewing.Raised.{Raised}
+use Rattle.sfm_law.specs.Based.{IsPair}
 use Rattle.sfm_reach.specs.Bits.{bit_in, set_at}
 use Rattle.sfm_exchange.specs.Claimed.{AreClaims}
 use Rattle.sfm_reach.specs.Reach.{IsRow}
@@ -14,6 +15,13 @@ pub record IsExchanged (f : SetFunction) (before after : List ℤ) (s t : ℕ) :
   pub amount : ℤ
   pub some : pos 1 ≤ℤ amount
   pub is : after ≡ exchanged before s t amount
+
+-- x has come by raising s and lowering t from a base at which the rows are claims
+pub record AreClaimsBefore (places : List ℕ) (f : SetFunction) (x : List ℤ) (s t : ℕ) (claimed : Bits) (rows : List Bits) : Type 0 where
+  pub pair : IsPair s t x
+  pub before : List ℤ
+  pub came : IsExchanged f before x s t
+  pub claims : AreClaims places f before claimed rows
 
 -- a place of the term with its ground place and its row at the base x
 pub record IsRaised (places : List ℕ) (f : SetFunction) (x : List ℤ) (raised : Raised) : Type 0 where

@@ -10,7 +10,7 @@ ghost use Rattle.sfm_exchange.specs.{Claimed.{IsAsked, claims_of}, Graph.{IsClai
 use crate::graph::Graph;
 use crate::path::Hop;
 use sfm_base::Memory;
-use sfm_law::Term;
+use sfm_law::{At, Term};
 use sfm_reach::{Based, Bits, only, renew, row_kept, take_in};
 use std::alloc::Global;
 
@@ -46,7 +46,8 @@ fn ask_at<T: Term>(
     let claimed = &mut graph.claimed[i];
     claimed.remove(place);
     let x = graph.bases.row(i);
-    let at = Based { term, q, x };
+    let base = At { q, x };
+    let at = Based { term, base };
     let note = &mut graph.notes[i];
     let rows = &mut graph.rows[i];
     let row = row_kept(alloc, &at, note, u, rows)?;

@@ -10,7 +10,7 @@ use crate::graph::Graph;
 use crate::kept::{move_kept, renew_kept, room_kept};
 use crate::path::{Hop, Path};
 use sfm_base::Memory;
-use sfm_law::{Room, Term, exchange};
+use sfm_law::{At, Room, Swap, Term, exchange};
 use sfm_reach::{Based, renew, widen};
 use std::alloc::Global;
 
@@ -44,11 +44,10 @@ pub fn amount_of<T: Term>(
     for hop in hops {
         let i = hop.term;
         let note = &mut graph.notes[i];
-        let at = Based {
-            term: &terms[i],
-            q,
-            x: graph.bases.row(i),
-        };
+        let term = &terms[i];
+        let x = graph.bases.row(i);
+        let base = At { q, x };
+        let at = Based { term, base };
         let room = room_kept(alloc, &at, note, hop.u, hop.v)?;
         a = within(a, room);
     }
@@ -81,7 +80,6 @@ fn exchange_at<T: Term>(
     requires inside { hop.term < length terms.now }
     requires can { CanExchange (meanings T.places T.value_of terms.now) q graph.old.bases hop a }
     requires low { pos 1 ≤ℤ a }
-    requires high { a ≤ℤ pos (10 ^ 30) }
     ensures moved { OnOk result (graph.new.bases ≡ slice_set graph.old.bases hop.term
         (exchanged (base_at graph.old.bases hop.term) hop.u hop.v a)) }
     ensures graph { OnOk result (IsClaimed T.places T.value_of T.size_of T.fits terms.now
@@ -91,9 +89,16 @@ fn exchange_at<T: Term>(
     let term = &terms[i];
     let note = &mut graph.notes[i];
     let x = graph.bases.row_mut(i);
-    move_kept(alloc, &Based { term, q, x }, note, hop, a)?;
+    let base = At { q, x };
+    let swap = Swap {
+        u: hop.u,
+        v: hop.v,
+        a,
+    };
+    move_kept(alloc, &Based { term, base }, note, &swap)?;
     exchange(term, q, x, hop.u, hop.v, a);
-    let at = Based { term, q, x };
+    let base = At { q, x };
+    let at = Based { term, base };
     let rows = &mut graph.rows[i];
     let claimed = &mut graph.claimed[i];
     let changes = renew_kept(alloc, &at, note, hop, rows, claimed)?;

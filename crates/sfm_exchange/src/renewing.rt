@@ -6,14 +6,14 @@
 // it. Where s depends on a place that depends on it, the two have the same least tight set, so the row is that of s, and neither
 // asked nor claimed. A term whose rows are cheap, or cheaper one after another, is asked for the others at once, so none of its rows
 // is ever claimed.
-ghost use Rattle.std.specs.Prelude.{◌≡◌, ◌≢◌, ◌↔◌, ◌⊎◌, IsTrue, true, ◌<◌, ◌-◌, max, ℕ, List, ℤ, length, IfOk, OnOk, slice_index_or};
+ghost use Rattle.std.specs.Prelude.{◌≡◌, ◌≢◌, ◌↔◌, ◌⊎◌, IsTrue, true, ◌<◌, ◌-◌, max, ℕ, length, IfOk, OnOk, slice_index_or};
 ghost use Rattle.sfm_spec.specs.{Sets.{IsPlaced}, Rows.{Depends}, Terms.{times}};
-ghost use Rattle.sfm_reach.specs.{Based.{IsBased}, Bits.{bit_in}, Image.{IsImage}, Reach.{IsRow}};
-ghost use Rattle.sfm_exchange.specs.{Claimed.{AreClaims}, Renewed.{AreAsked, AreDepending, AreJoined, AreRenewed, AreShared, AreTakenIn, IsExchanged, IsJoined, IsRaised}};
+ghost use Rattle.sfm_reach.specs.{Based.{IsPlacedBase}, Bits.{bit_in}, Image.{IsImage}, Reach.{IsRow}};
+ghost use Rattle.sfm_exchange.specs.Renewed.{AreAsked, AreClaimsBefore, AreDepending, AreJoined, AreRenewed, AreShared, AreTakenIn, IsJoined, IsRaised};
 
 use crate::path::Hop;
 use sfm_base::Memory;
-use sfm_law::Term;
+use sfm_law::{Lead, Term};
 use sfm_reach::{Based, BitRows, Bits, Image, no_bits, only, row_beside, row_by};
 use std::alloc::Global;
 
@@ -190,57 +190,64 @@ fn settle_shared(
 // The row of the place u, which depends on the place that was raised. Where that depends on u as well, both depend on the same.
 fn row_after<T: Term>(
     alloc: Global,
-    at: &Based<'_, T>,
+    at: &Based<'_, '_, T>,
     note: &mut T::Note,
     raised: &Raised,
     u: usize,
     image: &mut Image,
 ) -> Result<Bits, Memory>
-    requires based { IsBased T.places T.value_of T.size_of at.now.term.now at.now.q at.now.x.now }
-    requires noted { T.fits at.now.term.now note.old at.now.q at.now.x.now }
-    requires raised { IsRaised (T.places at.now.term.now) (times at.now.q
-        (T.value_of at.now.term.now)) at.now.x.now raised.now }
-    requires from { u < length at.now.x.now }
-    requires leads { Depends (times at.now.q (T.value_of at.now.term.now)) at.now.x.now u
+    requires based { IsPlacedBase T.places T.value_of T.size_of at.now.term.now at.now.base.q
+        at.now.base.x.now }
+    requires noted { T.fits at.now.term.now note.old at.now.base.q at.now.base.x.now }
+    requires raised { IsRaised (T.places at.now.term.now) (times at.now.base.q
+        (T.value_of at.now.term.now)) at.now.base.x.now raised.now }
+    requires from { u < length at.now.base.x.now }
+    requires leads { Depends (times at.now.base.q (T.value_of at.now.term.now)) at.now.base.x.now u
         raised.now.local }
     requires image { IsImage (T.places at.now.term.now) image.old.part image.old.bits
         image.old.in_order }
     ensures image { OnOk result (IsImage (T.places at.now.term.now) image.new.part image.new.bits
         image.new.in_order) }
     ensures row { IfOk result (IsRow (T.places at.now.term.now)
-        (times at.now.q (T.value_of at.now.term.now)) at.now.x.now u) }
-    ensures noted { OnOk result (T.fits at.now.term.now note.new at.now.q at.now.x.now) }
+        (times at.now.base.q (T.value_of at.now.term.now)) at.now.base.x.now u) }
+    ensures noted { OnOk result (T.fits at.now.term.now note.new at.now.base.q at.now.base.x.now) }
 {
     let places = at.term.elements();
     let place = places[u];
     if raised.row.contains(place) {
         return Ok(joined(&raised.row, &raised.row, raised.place, place));
     }
-    row_beside(alloc, at, note, raised.local, u, image)
+    let lead = Lead {
+        from: u,
+        onto: raised.local,
+    };
+    row_beside(alloc, at, note, &lead, image)
 }
 
 // Asks for the rows of some places, each of which depends on the place that was raised, by a note that fits the base, which fits
 // it still.
 fn ask_rows<T: Term>(
     alloc: Global,
-    at: &Based<'_, T>,
+    at: &Based<'_, '_, T>,
     note: &mut T::Note,
     raised: &Raised,
     changed: &Bits,
     rows: &mut BitRows,
 ) -> Result<(), Memory>
-    requires based { IsBased T.places T.value_of T.size_of at.now.term.now at.now.q at.now.x.now }
-    requires noted { T.fits at.now.term.now note.old at.now.q at.now.x.now }
-    requires raised { IsRaised (T.places at.now.term.now) (times at.now.q
-        (T.value_of at.now.term.now)) at.now.x.now raised.now }
-    requires leads { (u : ℕ) → u < length at.now.x.now → bit_in changed.now
+    requires based { IsPlacedBase T.places T.value_of T.size_of at.now.term.now at.now.base.q
+        at.now.base.x.now }
+    requires noted { T.fits at.now.term.now note.old at.now.base.q at.now.base.x.now }
+    requires raised { IsRaised (T.places at.now.term.now) (times at.now.base.q
+        (T.value_of at.now.term.now)) at.now.base.x.now raised.now }
+    requires leads { (u : ℕ) → u < length at.now.base.x.now → bit_in changed.now
         (slice_index_or (T.places at.now.term.now) u 0) ≡ 1
-        → Depends (times at.now.q (T.value_of at.now.term.now)) at.now.x.now u raised.now.local }
-    requires rows { length rows.old ≡ length at.now.x.now }
+        → Depends (times at.now.base.q (T.value_of at.now.term.now)) at.now.base.x.now u
+        raised.now.local }
+    requires rows { length rows.old ≡ length at.now.base.x.now }
     ensures asked { OnOk result (AreAsked (T.places at.now.term.now)
-        (times at.now.q (T.value_of at.now.term.now)) at.now.x.now changed.now
+        (times at.now.base.q (T.value_of at.now.term.now)) at.now.base.x.now changed.now
         (length (T.places at.now.term.now)) rows.old rows.new) }
-    ensures noted { OnOk result (T.fits at.now.term.now note.new at.now.q at.now.x.now) }
+    ensures noted { OnOk result (T.fits at.now.term.now note.new at.now.base.q at.now.base.x.now) }
 {
     let places = at.term.elements();
     let mut image = rows.lend_image(alloc, places)?;
@@ -259,26 +266,22 @@ fn ask_rows<T: Term>(
 /// true. The note fits the base, and fits it still; after want of memory nothing is said of it.
 pub fn renew_rows<T: Term>(
     alloc: Global,
-    at: &Based<'_, T>,
+    at: &Based<'_, '_, T>,
     note: &mut T::Note,
     hop: Hop,
     rows: &mut BitRows,
     claimed: &mut Bits,
 ) -> Result<Changes, Memory>
-    requires based { IsBased T.places T.value_of T.size_of at.now.term.now at.now.q at.now.x.now }
-    requires noted { T.fits at.now.term.now note.old at.now.q at.now.x.now }
-    requires apart { hop.u ≢ hop.v }
-    requires raised { hop.u < length at.now.x.now }
-    requires lowered { hop.v < length at.now.x.now }
-    requires rows { length rows.old ≡ length at.now.x.now }
-    requires before { (before : List ℤ) × IsExchanged (times at.now.q (T.value_of at.now.term.now))
-        before at.now.x.now hop.u hop.v
-        × AreClaims (T.places at.now.term.now) (times at.now.q (T.value_of at.now.term.now)) before
-        claimed.old rows.old }
+    requires based { IsPlacedBase T.places T.value_of T.size_of at.now.term.now at.now.base.q
+        at.now.base.x.now }
+    requires noted { T.fits at.now.term.now note.old at.now.base.q at.now.base.x.now }
+    requires rows { length rows.old ≡ length at.now.base.x.now }
+    requires before { AreClaimsBefore (T.places at.now.term.now) (times at.now.base.q
+        (T.value_of at.now.term.now)) at.now.base.x.now hop.u hop.v claimed.old rows.old }
     ensures rows { OnOk result (length rows.new ≡ length rows.old) }
-    ensures noted { OnOk result (T.fits at.now.term.now note.new at.now.q at.now.x.now) }
+    ensures noted { OnOk result (T.fits at.now.term.now note.new at.now.base.q at.now.base.x.now) }
     ensures raised { IfOk result (λ r. AreRenewed (T.places at.now.term.now)
-        (times at.now.q (T.value_of at.now.term.now)) at.now.x.now claimed.new r rows.old
+        (times at.now.base.q (T.value_of at.now.term.now)) at.now.base.x.now claimed.new r rows.old
         rows.new) }
 {
     let places = at.term.elements();

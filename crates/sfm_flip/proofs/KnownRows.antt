@@ -14,11 +14,12 @@ use Rattle.sfm_kind.specs.declared.kind.Kind.{Kind}
 use Rattle.sfm_reach.specs.declared.bits.Bits.{Bits}
 use Rattle.sfm_reach.specs.Bits.{bit_in, set_at}
 use Rattle.sfm_exchange.specs.Claimed.{AreClaims}
+use Rattle.sfm_exchange.specs.Renewed.{AreClaimsBefore}
 use Rattle.sfm_flip.specs.declared.note.FlipNote.{FlipNote}
 use Rattle.sfm_flip.specs.declared.note.Owed.{Owed}
 use Rattle.sfm_flip.specs.Flipped.{flipped, negated}
 use Rattle.sfm_flip.specs.FlipLaws.{length-negated}
-use Rattle.sfm_flip.specs.Known.{AreKept, AreTrueAt, IsColumn, IsNoted, IsOwed, IsSettled}
+use Rattle.sfm_flip.specs.Known.{AreKept, AreTrueAt, IsColumn, IsNoted, IsSettled}
 use Rattle.sfm_flip.proofs.Turning.{flip-has}
 
 -- ---- what is owed
@@ -40,7 +41,8 @@ noted_settled kind q note h = record {
 }
 
 -- the exchange that is owed, where one is
-pub owed_noted : (kind : Kind) (q : ℤ) (note : FlipNote) (owed : Owed) → IsNoted kind q note → note.owed ≡ Some owed → IsOwed (kind_places kind) (times q (kind_value kind)) note.base note.claimed note.rows owed
+pub owed_noted : (kind : Kind) (q : ℤ) (note : FlipNote) (owed : Owed) → IsNoted kind q note → note.owed ≡ Some owed
+    → AreClaimsBefore (kind_places kind) (times q (kind_value kind)) note.base owed.raised owed.lowered note.claimed note.rows
 owed_noted kind q note owed h some = subst (AreKept (kind_places kind) (times q (kind_value kind)) note.base note.claimed note.rows) some h.rows
 
 -- nothing is exchanged
@@ -53,11 +55,9 @@ exchanged-nothing x u v lu lv ne = ext_get_or (pos 0) (exchanged x u v (pos 0)) 
 
 -- an exchange of something is owed at the base to which it leads
 pub owed_after : (places : List ℕ) (f : SetFunction) (x : List ℤ) (s t : ℕ) (a : ℤ) (claimed : Bits) (rows : List Bits) → IsBase f x → s < length x → t < length x → s ≢ t → pos 1 ≤ℤ a
-    → AreClaims places f x claimed rows → IsOwed places f (exchanged x s t a) claimed rows (record { raised = s; lowered = t })
+    → AreClaims places f x claimed rows → AreClaimsBefore places f (exchanged x s t a) s t claimed rows
 owed_after places f x s t a claimed rows base ls lt apart some claims = record {
-  apart = apart;
-  raised_in = rw (length-exchanged x s t a) ls;
-  lowered_in = rw (length-exchanged x s t a) lt;
+  pair = record { apart = apart; from = rw (length-exchanged x s t a) ls; onto = rw (length-exchanged x s t a) lt };
   before = x;
   came = record { base = base; amount = a; some = some; is = refl };
   claims = claims;

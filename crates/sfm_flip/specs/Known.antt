@@ -4,11 +4,11 @@ use Rattle.std.specs.Prelude.{◌≡◌, ◌≢◌, ◌↔◌, ℕ, ◌<◌, Boo
 use Rattle.sfm_spec.specs.Sets.{Has}
 use Rattle.sfm_spec.specs.Terms.{SetFunction, times, HasRoom}
 use Rattle.sfm_reach.specs.declared.bits.Bits.{Bits}
-use Rattle.sfm_reach.specs.Based.{IsBased}
+use Rattle.sfm_reach.specs.Based.{IsPlacedBase}
 use Rattle.sfm_reach.specs.Bits.{bit_in, set_at}
 use Rattle.sfm_reach.specs.Reach.{IsRow}
 use Rattle.sfm_exchange.specs.Claimed.{AreClaims}
-use Rattle.sfm_exchange.specs.Renewed.{IsExchanged}
+use Rattle.sfm_exchange.specs.Renewed.{AreClaimsBefore}
 use Rattle.sfm_kind.specs.Meanings.{kind_places}
 use Rattle.sfm_kind.specs.Kinds.{kind_value, kind_size, kind_fits}
 use Rattle.sfm_kind.specs.declared.kind.Kind.{Kind}
@@ -17,21 +17,12 @@ use Rattle.sfm_flip.specs.declared.note.Owed.{Owed}
 
 -- x is a base of q times the term, within the bounds of the calls of a term
 abbrev pub IsBaseOf : Kind → ℤ → List ℤ → Type 0
-IsBaseOf kind q x = IsBased kind_places kind_value kind_size kind q x
-
--- the base has come by the exchange that is owed from one at which the rows are those of the term, some of them only claimed
-pub record IsOwed (places : List ℕ) (f : SetFunction) (x : List ℤ) (claimed : Bits) (rows : List Bits) (owed : Owed) : Type 0 where
-  pub apart : owed.raised ≢ owed.lowered
-  pub raised_in : owed.raised < length x
-  pub lowered_in : owed.lowered < length x
-  pub before : List ℤ
-  pub came : IsExchanged f before x owed.raised owed.lowered
-  pub claims : AreClaims places f before claimed rows
+IsBaseOf kind q x = IsPlacedBase kind_places kind_value kind_size kind q x
 
 -- the rows are those of the term at the base, some of them only claimed; where an exchange is owed, at the base before that
 abbrev pub AreKept : List ℕ → SetFunction → List ℤ → Bits → List Bits → Option Owed → Type 0
 AreKept places f x claimed rows None = AreClaims places f x claimed rows
-AreKept places f x claimed rows (Some owed) = IsOwed places f x claimed rows owed
+AreKept places f x claimed rows (Some owed) = AreClaimsBefore places f x owed.raised owed.lowered claimed rows
 
 -- what is kept beside the base of q times the term that the note keeps is true there
 pub record IsNoted (kind : Kind) (q : ℤ) (note : FlipNote) : Type 0 where

@@ -1,16 +1,15 @@
 // A term turned round: what a part is worth is what its rest is worth, less the whole. So its bases are the negated ones, and its room
 // of (u, v) is that of (v, u) at the negated base (Fujishige, Submodular Functions and Optimization, section 2.3). It is seen as the
 // term that is turned. The row of a place is its column in the term: the places whose rows have it (note.rt).
-ghost use Rattle.std.specs.{Prelude.{◌≡◌, ◌≢◌, ◌↔◌, ◌*◌, ◌^◌, ◌<◌, Bool, List, length, ℤ, pos, neg_ℤ, ◌*ℤ◌, ◌≤ℤ◌, IfOk, OnOk, IsTrue, Some}, List.{All}};
-ghost use Rattle.sfm_spec.specs.{Bounds.{IsEntry, IsFactor}, Terms.{SetFunction, times, IsBase, IsFamily, IsSubmodular, exchanged}};
-ghost use Rattle.sfm_law.specs.Room.{IsRoom, IsReach, IsWithinRoom};
+ghost use Rattle.std.specs.{Prelude.{◌≡◌, ◌*◌, ◌^◌, pos, ◌≤ℤ◌, IfOk}, List.{All}};
+ghost use Rattle.sfm_spec.specs.Bounds.{IsEntry};
 ghost use Rattle.sfm_kind.specs.{Meanings.{kind_places}, Kinds.{kind_size}};
 ghost use Rattle.sfm_flip.specs.{Flipped.{negated}, Flips.{flip_value, flip_size, flip_start, flip_fits, flip-family, flip-submodular, flip-bounded, flip-starts, flip-starts_small}};
 
 use crate::note::{FlipNote, Owed, note_at, settle, tell_column};
 use sfm_base::{Memory, Numbers, Set};
 use sfm_kind::Kind;
-use sfm_law::{Room, Term, exchange};
+use sfm_law::{At, Lead, Room, Swap, Term, exchange};
 use std::alloc::Global;
 use std::marker::Model;
 
@@ -133,70 +132,63 @@ impl Term for Flip {
         self.term.is_base(alloc, q, base.as_slice())
     }
 
-    fn room(&self, alloc: Global, q: i128, x: &[i128], u: usize, v: usize) -> Result<Room, Memory> {
-        let base = turned(alloc, x)?;
-        self.term.room(alloc, q, base.as_slice(), v, u)
+    fn room(&self, alloc: Global, at: &At<'_>, u: usize, v: usize) -> Result<Room, Memory> {
+        let base = turned(alloc, at.x)?;
+        let x = base.as_slice();
+        self.term.room(alloc, &At { q: at.q, x }, v, u)
     }
 
-    fn reach(
-        &self,
-        alloc: Global,
-        q: i128,
-        x: &[i128],
-        u: usize,
-        to: &mut Set,
-    ) -> Result<(), Memory> {
-        let mut note = self.note(alloc, q, x)?;
-        self.reach_by(alloc, q, x, &mut note, u, to)
+    fn reach(&self, alloc: Global, at: &At<'_>, u: usize, to: &mut Set) -> Result<(), Memory> {
+        let mut note = self.note(alloc, at)?;
+        self.reach_by(alloc, at, &mut note, &Lead { from: u, onto: u }, to)
     }
 
-    fn note(&self, alloc: Global, q: i128, x: &[i128]) -> Result<FlipNote, Memory> {
-        let base = turned(alloc, x)?;
-        note_at(alloc, &self.term, q, base)
+    fn note(&self, alloc: Global, at: &At<'_>) -> Result<FlipNote, Memory> {
+        let base = turned(alloc, at.x)?;
+        note_at(alloc, &self.term, at.q, base)
     }
 
     fn reach_by(
         &self,
         alloc: Global,
-        q: i128,
-        _x: &[i128],
+        at: &At<'_>,
         note: &mut FlipNote,
-        u: usize,
+        lead: &Lead,
         to: &mut Set,
     ) -> Result<(), Memory> {
-        tell_column(alloc, &self.term, q, note, u, to)
+        tell_column(alloc, &self.term, at.q, note, lead.from, to)
     }
 
     fn room_by(
         &self,
         alloc: Global,
-        q: i128,
-        _x: &[i128],
+        at: &At<'_>,
         note: &mut FlipNote,
         u: usize,
         v: usize,
     ) -> Result<Room, Memory> {
+        let x = note.base.as_slice();
         self.term
-            .room_by(alloc, q, note.base.as_slice(), &mut note.inner, v, u)
+            .room_by(alloc, &At { q: at.q, x }, &mut note.inner, v, u)
     }
 
     fn moved(
         &self,
         alloc: Global,
-        q: i128,
-        _x: &[i128],
+        at: &At<'_>,
         note: &mut FlipNote,
-        u: usize,
-        v: usize,
-        a: i128,
+        swap: &Swap,
     ) -> Result<(), Memory> {
+        let Swap { u, v, a } = *swap;
         if a == 0 {
             return Ok(());
         }
-        settle(alloc, &self.term, q, note)?;
+        settle(alloc, &self.term, at.q, note)?;
+        let x = note.base.as_slice();
+        let turned = Swap { u: v, v: u, a };
         self.term
-            .moved(alloc, q, note.base.as_slice(), &mut note.inner, v, u, a)?;
-        exchange(&self.term, q, note.base.as_mut_slice(), v, u, a);
+            .moved(alloc, &At { q: at.q, x }, &mut note.inner, &turned)?;
+        exchange(&self.term, at.q, note.base.as_mut_slice(), v, u, a);
         note.owed = Some(Owed {
             raised: v,
             lowered: u,

@@ -13,7 +13,7 @@ ghost use Rattle.sfm_flip.specs.Known.{AreTrueAt, IsBaseOf, IsColumn, IsNoted, I
 use sfm_base::{Memory, Numbers, Set};
 use sfm_exchange::{Hop, renew_rows};
 use sfm_kind::{Kind, KindNote};
-use sfm_law::Term;
+use sfm_law::{At, Term};
 use sfm_reach::{Based, BitRows, Bits, ask, no_bits, row_by};
 use std::alloc::Global;
 
@@ -70,8 +70,12 @@ pub(crate) fn note_at(
 {
     let mut rows = BitRows::blank(alloc, base.len())?;
     let x = base.as_slice();
-    let mut inner = term.note(alloc, q, x)?;
-    ask(alloc, &Based { term, q, x }, &mut inner, &mut rows)?;
+    let at = Based {
+        term,
+        base: At { q, x },
+    };
+    let mut inner = term.note(alloc, &at.base)?;
+    ask(alloc, &at, &mut inner, &mut rows)?;
     Ok(FlipNote {
         inner,
         base,
@@ -103,6 +107,7 @@ fn pay(alloc: Global, term: &Kind, q: i128, note: &mut FlipNote, owed: Owed) -> 
     ensures settled { OnOk result (IsSettled term.now q note.new) }
 {
     let x = note.base.as_slice();
+    let base = At { q, x };
     let hop = Hop {
         to: 0,
         term: 0,
@@ -111,7 +116,7 @@ fn pay(alloc: Global, term: &Kind, q: i128, note: &mut FlipNote, owed: Owed) -> 
     };
     renew_rows(
         alloc,
-        &Based { term, q, x },
+        &Based { term, base },
         &mut note.inner,
         hop,
         &mut note.rows,
@@ -151,9 +156,10 @@ fn ask_claim(
         return Ok(());
     }
     let x = note.base.as_slice();
+    let base = At { q, x };
     let row = row_by(
         alloc,
-        &Based { term, q, x },
+        &Based { term, base },
         &mut note.inner,
         v,
         &mut note.rows,

@@ -1,16 +1,16 @@
 // One type for all kinds of term. Each call of a term passes on to the kind's own, and each member and law of a term goes
 // by cases over the kinds (specs/Kinds.antt), so a kind that is added brings one case to each law, and one to the macro by
 // which the calls pass on. The plain kinds keep nothing beside a base: what is asked by a note is asked of them as without
-// one. Graphic ranks alone have another way to ask for a row with a place to which the place of the row leads.
-ghost use Rattle.std.specs.{Prelude.{◌≡◌, ◌≢◌, ◌↔◌, ℕ, ◌<◌, ◌≤◌, ◌^◌, Bool, List, length, ℤ, pos, neg_ℤ, ◌*ℤ◌, ◌≤ℤ◌, IfOk, OnOk, IsTrue, Option, Some}, List.{All}};
-ghost use Rattle.sfm_spec.specs.{Bounds.{IsEntry, IsFactor}, Terms.{SetFunction, times, IsBase, IsFamily, IsSubmodular, exchanged}};
-ghost use Rattle.sfm_law.specs.Room.{IsRoom, IsReach, IsWithinRoom};
+// one.
+ghost use Rattle.std.specs.Prelude.{◌≡◌, Bool, List, length, ℤ, IfOk};
+ghost use Rattle.sfm_spec.specs.Terms.{SetFunction};
+ghost use Rattle.sfm_law.specs.Based.{IsBased};
 ghost use Rattle.sfm_kind.specs.{Meanings.{kind_places, IsValueOf, IsMeaningOf, size_by, IsStartOf}, Kinds.{kind_value, kind_size, kind_start, kind_lean_value, kind_lean_calls, kind_fits, kind-family, kind-submodular, kind-bounded, kind-starts, kind-starts_small}};
 
 use sfm_base::{Memory, Set};
 use sfm_concave::{Concave, Uniform};
 use sfm_laminar::Laminar;
-use sfm_law::{Room, Term};
+use sfm_law::{At, Lead, Room, Swap, Term};
 use sfm_matroid::{Graphic, Transversal};
 use sfm_simple::{Cover, Cut, Need, Table, Weight};
 use std::alloc::Global;
@@ -78,15 +78,11 @@ impl Drop for KindNote {
 /// A note that fits a base, on the heap. This stands apart, since a function pays as it begins for the room of all that it
 /// holds, and a large note would make each small one dear.
 #[inline(never)]
-fn boxed_note<T: Term>(alloc: Global, term: &T, q: i128, x: &[i128]) -> Result<Box<T::Note>, Memory>
-    requires factor { IsFactor q }
-    requires entries { length x.now ≡ length (T.places term.now) }
-    requires bounded { T.size_of term.now ≤ℤ pos (10 ^ 18) }
-    requires small { All IsEntry x.now }
-    requires base { IsBase (times q (T.value_of term.now)) x.now }
-    ensures { IfOk result (λ r. T.fits term.now r.value q x.now) }
+fn boxed_note<T: Term>(alloc: Global, term: &T, at: &At<'_>) -> Result<Box<T::Note>, Memory>
+    requires { IsBased T.places T.value_of T.size_of term.now at.now.q at.now.x.now }
+    ensures { IfOk result (λ r. T.fits term.now r.value at.now.q at.now.x.now) }
 {
-    let note = term.note(alloc, q, x)?;
+    let note = term.note(alloc, at)?;
     Ok(Box::new(alloc, note)?)
 }
 
@@ -233,27 +229,20 @@ impl Term for Kind {
         by_kind!(self, term => term.is_base(alloc, q, x))
     }
 
-    fn room(&self, alloc: Global, q: i128, x: &[i128], u: usize, v: usize) -> Result<Room, Memory> {
-        by_kind!(self, term => term.room(alloc, q, x, u, v))
+    fn room(&self, alloc: Global, at: &At<'_>, u: usize, v: usize) -> Result<Room, Memory> {
+        by_kind!(self, term => term.room(alloc, at, u, v))
     }
 
-    fn reach(
-        &self,
-        alloc: Global,
-        q: i128,
-        x: &[i128],
-        u: usize,
-        to: &mut Set,
-    ) -> Result<(), Memory> {
-        by_kind!(self, term => term.reach(alloc, q, x, u, to))
+    fn reach(&self, alloc: Global, at: &At<'_>, u: usize, to: &mut Set) -> Result<(), Memory> {
+        by_kind!(self, term => term.reach(alloc, at, u, to))
     }
 
-    fn note(&self, alloc: Global, q: i128, x: &[i128]) -> Result<KindNote, Memory> {
+    fn note(&self, alloc: Global, at: &At<'_>) -> Result<KindNote, Memory> {
         match self {
-            Kind::Laminar(term) => Ok(KindNote::Laminar(term.note(alloc, q, x)?)),
-            Kind::Graphic(term) => Ok(KindNote::Graphic(boxed_note(alloc, term, q, x)?)),
-            Kind::Transversal(term) => Ok(KindNote::Transversal(boxed_note(alloc, term, q, x)?)),
-            Kind::Concave(term) => Ok(KindNote::Concave(term.note(alloc, q, x)?)),
+            Kind::Laminar(term) => Ok(KindNote::Laminar(term.note(alloc, at)?)),
+            Kind::Graphic(term) => Ok(KindNote::Graphic(boxed_note(alloc, term, at)?)),
+            Kind::Transversal(term) => Ok(KindNote::Transversal(boxed_note(alloc, term, at)?)),
+            Kind::Concave(term) => Ok(KindNote::Concave(term.note(alloc, at)?)),
             _ => Ok(KindNote::Nothing),
         }
     }
@@ -261,55 +250,32 @@ impl Term for Kind {
     fn reach_by(
         &self,
         alloc: Global,
-        q: i128,
-        x: &[i128],
+        at: &At<'_>,
         note: &mut KindNote,
-        u: usize,
+        lead: &Lead,
         to: &mut Set,
     ) -> Result<(), Memory> {
-        by_note!(self, note, term => term.reach_by(alloc, q, x, note, u, to), _ => self.reach(alloc, q, x, u, to))
+        by_note!(self, note, term => term.reach_by(alloc, at, note, lead, to), _ => self.reach(alloc, at, lead.from, to))
     }
 
     fn room_by(
         &self,
         alloc: Global,
-        q: i128,
-        x: &[i128],
+        at: &At<'_>,
         note: &mut KindNote,
         u: usize,
         v: usize,
     ) -> Result<Room, Memory> {
-        by_note!(self, note, term => term.room_by(alloc, q, x, note, u, v), _ => self.room(alloc, q, x, u, v))
-    }
-
-    fn reach_with(
-        &self,
-        alloc: Global,
-        q: i128,
-        x: &[i128],
-        note: &mut KindNote,
-        s: usize,
-        u: usize,
-        to: &mut Set,
-    ) -> Result<(), Memory> {
-        match self {
-            Kind::Graphic(term) => {
-                by_note_of!(note, Graphic => term.reach_with(alloc, q, x, note, s, u, to))
-            }
-            _ => self.reach_by(alloc, q, x, note, u, to),
-        }
+        by_note!(self, note, term => term.room_by(alloc, at, note, u, v), _ => self.room(alloc, at, u, v))
     }
 
     fn moved(
         &self,
         alloc: Global,
-        q: i128,
-        x: &[i128],
+        at: &At<'_>,
         note: &mut KindNote,
-        u: usize,
-        v: usize,
-        a: i128,
+        swap: &Swap,
     ) -> Result<(), Memory> {
-        by_note!(self, note, term => term.moved(alloc, q, x, note, u, v, a), _ => Ok(()))
+        by_note!(self, note, term => term.moved(alloc, at, note, swap), _ => Ok(()))
     }
 }

@@ -5,7 +5,7 @@
 // places that have something are: a row is then made word by word, and a room is the least of a few numbers.
 ghost use Rattle.std.specs.{Prelude.{◌≡◌, ◌≢◌, ◌↔◌, ℕ, ◌<◌, ◌≤◌, ◌^◌, Bool, true, false, List, length, slice_index_or, ℤ, pos, neg_ℤ, ◌*ℤ◌, ◌+ℤ◌, ◌-ℤ◌, ◌≤ℤ◌, ◌<ℤ◌, IfOk, IfSome, OnOk, IsTrue, Option, Some, Ok, Err, Contains}, List.{All}};
 ghost use Rattle.sfm_spec.specs.{Bounds.{IsAtMost, IsEntry, IsFactor, IsGiven, AreElements, total_of}, Sets.{Has, size}, Terms.{SetFunction, times, IsBase, IsFamily, IsSubmodular, IsGreedy, exchanged}, Kinds.{IsWithinCaps, IsRank, IsRankFunction}};
-ghost use Rattle.sfm_law.specs.Room.{IsRoom, IsReach, IsWithinRoom};
+ghost use Rattle.sfm_law.specs.{Based.{IsPair}, Room.{IsRoom, IsReach}};
 ghost use Rattle.sfm_laminar.specs.{Groups.{IsGroup, IsBelow, AreGroups, NoneCross, IsFirstCrossing}, Crossing.{group_at}, Ranks.{rank}, Indexes.{IsIndex, AreHoldersOf, AreMasks}, Masks.{mask}, Slacks.{AreSlacks, IsSupport, laminar_fits, share_of}, Rooms.{slack_of, IsLeast, IsKept, IsHeld, IsHeldAt}, LaminarLaws.{laminar_value, laminar_size, laminar_start, basis_of, laminar-family, laminar-submodular, laminar-bounded, laminar-starts, laminar-starts_small}};
 
 use crate::crossing::first_crossing;
@@ -16,7 +16,7 @@ use crate::masks::Masks;
 use crate::number::{bound, sum_listed};
 use crate::slacks::{Slacks, move_support, put_some, share, support_of};
 use sfm_base::{Memory, Places, Set};
-use sfm_law::{Room, Term, are_within, has_sum, least_left, product, write_each};
+use sfm_law::{At, Lead, Room, Swap, Term, are_within, has_sum, least_left, product, write_each};
 use std::alloc::Global;
 
 /// Why groups make no laminar matroid.
@@ -306,17 +306,18 @@ impl Laminar {
     }
 
     /// What the group i lacks, by what is kept if there is something.
-    fn slack_by(&self, q: i128, x: &[i128], note: Option<&Slacks>, i: usize) -> i128
-        requires factor { IsFactor q }
-        requires entries { length x.now ≡ length self.now.places }
-        requires small { All IsEntry x.now }
-        requires noted { IfSome note (λ n. laminar_fits self.now.w self.now.groups n.now q x.now) }
+    fn slack_by(&self, at: &At<'_>, note: Option<&Slacks>, i: usize) -> i128
+        requires factor { IsFactor at.now.q }
+        requires entries { length at.now.x.now ≡ length self.now.places }
+        requires small { All IsEntry at.now.x.now }
+        requires noted { IfSome note (λ n. laminar_fits self.now.w self.now.groups n.now at.now.q
+            at.now.x.now) }
         requires group { i < length self.now.groups }
-        ensures { result ≡ slack_of q self.now.w x.now (group_at self.now.groups i) }
+        ensures { result ≡ slack_of at.now.q self.now.w at.now.x.now (group_at self.now.groups i) }
     {
         match note {
             Some(note) => note.slacks[i],
-            None => self.slack(q, x, i),
+            None => self.slack(at.q, at.x, i),
         }
     }
 
@@ -348,31 +349,33 @@ impl Laminar {
     }
 
     /// What v has, or what u lacks of q·w where that is less.
-    fn least_entry(&self, q: i128, x: &[i128], u: usize, v: usize) -> i128
-        requires factor { IsFactor q }
-        requires small { All IsEntry x.now }
-        requires from { u < length x.now }
-        requires onto { v < length x.now }
-        ensures { IsLeast q self.now.w self.now.groups x.now u v 0 result }
+    fn least_entry(&self, at: &At<'_>, u: usize, v: usize) -> i128
+        requires factor { IsFactor at.now.q }
+        requires small { All IsEntry at.now.x.now }
+        requires from { u < length at.now.x.now }
+        requires onto { v < length at.now.x.now }
+        ensures { IsLeast at.now.q self.now.w self.now.groups at.now.x.now u v 0 result }
     {
-        least_left(x, u, v, self.place_most(q))
+        least_left(at.x, u, v, self.place_most(at.q))
     }
 
     /// The least of what v has, what u lacks of q·w, and what each group lacks that has u and not v.
-    fn least_left(&self, q: i128, x: &[i128], note: Option<&Slacks>, u: usize, v: usize) -> i128
-        requires factor { IsFactor q }
-        requires entries { length x.now ≡ length self.now.places }
-        requires small { All IsEntry x.now }
-        requires noted { IfSome note (λ n. laminar_fits self.now.w self.now.groups n.now q x.now) }
-        requires from { u < length x.now }
-        requires onto { v < length x.now }
-        ensures { IsLeast q self.now.w self.now.groups x.now u v (length self.now.groups) result }
+    fn least_left(&self, at: &At<'_>, note: Option<&Slacks>, u: usize, v: usize) -> i128
+        requires factor { IsFactor at.now.q }
+        requires entries { length at.now.x.now ≡ length self.now.places }
+        requires small { All IsEntry at.now.x.now }
+        requires noted { IfSome note (λ n. laminar_fits self.now.w self.now.groups n.now at.now.q
+            at.now.x.now) }
+        requires from { u < length at.now.x.now }
+        requires onto { v < length at.now.x.now }
+        ensures { IsLeast at.now.q self.now.w self.now.groups at.now.x.now u v
+            (length self.now.groups) result }
     {
-        let mut least = self.least_entry(q, x, u, v);
+        let mut least = self.least_entry(at, u, v);
         let holders = self.holders(u);
         for i in holders {
             if !self.has(*i, v) {
-                least = least.min(self.slack_by(q, x, note, *i));
+                least = least.min(self.slack_by(at, note, *i));
             }
         }
         least
@@ -380,20 +383,19 @@ impl Laminar {
 
     /// The room of (u, v) at a base, by what is kept beside it if there is something: the least of what v has, what u lacks
     /// of q·w, and what each group lacks that has u and not v.
-    fn room_noted(&self, q: i128, x: &[i128], note: Option<&Slacks>, u: usize, v: usize) -> Room
-        requires factor { IsFactor q }
-        requires entries { length x.now ≡ length self.now.places }
-        requires small { All IsEntry x.now }
-        requires base { IsBase (times q (laminar_value (length self.now.places) self.now.w
-            self.now.groups)) x.now }
-        requires noted { IfSome note (λ n. laminar_fits self.now.w self.now.groups n.now q x.now) }
-        requires apart { u ≢ v }
-        requires from { u < length x.now }
-        requires onto { v < length x.now }
-        ensures { IsRoom (times q (laminar_value (length self.now.places) self.now.w
-            self.now.groups)) x.now u v result }
+    fn room_noted(&self, at: &At<'_>, note: Option<&Slacks>, u: usize, v: usize) -> Room
+        requires factor { IsFactor at.now.q }
+        requires entries { length at.now.x.now ≡ length self.now.places }
+        requires small { All IsEntry at.now.x.now }
+        requires base { IsBase (times at.now.q (laminar_value (length self.now.places) self.now.w
+            self.now.groups)) at.now.x.now }
+        requires noted { IfSome note (λ n. laminar_fits self.now.w self.now.groups n.now at.now.q
+            at.now.x.now) }
+        requires pair { IsPair u v at.now.x.now }
+        ensures { IsRoom (times at.now.q (laminar_value (length self.now.places) self.now.w
+            self.now.groups)) at.now.x.now u v result }
     {
-        Room::Upto(self.least_left(q, x, note, u, v))
+        Room::Upto(self.least_left(at, note, u, v))
     }
 
     /// The room of (u, v) at a base: the least of what v has, what u lacks of q·w, and what each group lacks that has u and
@@ -410,86 +412,92 @@ impl Laminar {
         ensures { IsRoom (times q (laminar_value (length self.now.places) self.now.w
             self.now.groups)) x.now u v result }
     {
-        self.room_noted(q, x, None, u, v)
+        self.room_noted(&At { q, x }, None, u, v)
     }
 
     /// Whether the group i lacks nothing.
-    fn is_full(&self, q: i128, x: &[i128], note: Option<&Slacks>, i: usize) -> bool
-        requires factor { IsFactor q }
-        requires entries { length x.now ≡ length self.now.places }
-        requires small { All IsEntry x.now }
-        requires noted { IfSome note (λ n. laminar_fits self.now.w self.now.groups n.now q x.now) }
+    fn is_full(&self, at: &At<'_>, note: Option<&Slacks>, i: usize) -> bool
+        requires factor { IsFactor at.now.q }
+        requires entries { length at.now.x.now ≡ length self.now.places }
+        requires small { All IsEntry at.now.x.now }
+        requires noted { IfSome note (λ n. laminar_fits self.now.w self.now.groups n.now at.now.q
+            at.now.x.now) }
         requires group { i < length self.now.groups }
-        ensures { IsTrue result ↔ (slack_of q self.now.w x.now (group_at self.now.groups i)
-            ≡ pos 0) }
+        ensures { IsTrue result ↔ (slack_of at.now.q self.now.w at.now.x.now
+            (group_at self.now.groups i) ≡ pos 0) }
     {
-        self.slack_by(q, x, note, i) == 0
+        self.slack_by(at, note, i) == 0
     }
 
     /// Takes out what is not in the group i, where it lacks nothing.
-    fn keep_full_group(&self, q: i128, x: &[i128], note: Option<&Slacks>, i: usize, to: &mut Set)
-        requires factor { IsFactor q }
-        requires entries { length x.now ≡ length self.now.places }
-        requires small { All IsEntry x.now }
-        requires noted { IfSome note (λ n. laminar_fits self.now.w self.now.groups n.now q x.now) }
+    fn keep_full_group(&self, at: &At<'_>, note: Option<&Slacks>, i: usize, to: &mut Set)
+        requires factor { IsFactor at.now.q }
+        requires entries { length at.now.x.now ≡ length self.now.places }
+        requires small { All IsEntry at.now.x.now }
+        requires noted { IfSome note (λ n. laminar_fits self.now.w self.now.groups n.now at.now.q
+            at.now.x.now) }
         requires group { i < length self.now.groups }
         requires sized { length to.old ≡ length self.now.places }
-        ensures { IsKept to.old to.new (IsHeldAt q self.now.w self.now.groups x.now i) }
+        ensures { IsKept to.old to.new (IsHeldAt at.now.q self.now.w self.now.groups at.now.x.now
+            i) }
     {
-        if !self.is_full(q, x, note, i) {
+        if !self.is_full(at, note, i) {
             return;
         }
         to.keep_with(self.mask(i));
     }
 
     /// Takes out what is not in each group that has u and lacks nothing.
-    fn keep_full(&self, q: i128, x: &[i128], note: Option<&Slacks>, u: usize, to: &mut Set)
-        requires factor { IsFactor q }
-        requires entries { length x.now ≡ length self.now.places }
-        requires small { All IsEntry x.now }
-        requires noted { IfSome note (λ n. laminar_fits self.now.w self.now.groups n.now q x.now) }
-        requires from { u < length x.now }
+    fn keep_full(&self, at: &At<'_>, note: Option<&Slacks>, u: usize, to: &mut Set)
+        requires factor { IsFactor at.now.q }
+        requires entries { length at.now.x.now ≡ length self.now.places }
+        requires small { All IsEntry at.now.x.now }
+        requires noted { IfSome note (λ n. laminar_fits self.now.w self.now.groups n.now at.now.q
+            at.now.x.now) }
+        requires from { u < length at.now.x.now }
         requires sized { length to.old ≡ length self.now.places }
-        ensures { IsKept to.old to.new (IsHeld q self.now.w self.now.groups x.now u
+        ensures { IsKept to.old to.new (IsHeld at.now.q self.now.w self.now.groups at.now.x.now u
             (length self.now.groups)) }
     {
         let holders = self.holders(u);
         for i in holders {
-            self.keep_full_group(q, x, note, *i, to);
+            self.keep_full_group(at, note, *i, to);
         }
     }
 
     /// Whether u lacks something of q·w.
-    fn lacks(&self, q: i128, x: &[i128], u: usize) -> bool
-        requires factor { IsFactor q }
-        requires small { All IsEntry x.now }
-        requires from { u < length x.now }
-        ensures { IsTrue result ↔ (slice_index_or x.now u (pos 0) <ℤ (q *ℤ self.now.w)) }
+    fn lacks(&self, at: &At<'_>, u: usize) -> bool
+        requires factor { IsFactor at.now.q }
+        requires small { All IsEntry at.now.x.now }
+        requires from { u < length at.now.x.now }
+        ensures { IsTrue result
+            ↔ (slice_index_or at.now.x.now u (pos 0) <ℤ (at.now.q *ℤ self.now.w)) }
     {
-        x[u] < self.place_most(q)
+        at.x[u] < self.place_most(at.q)
     }
 
     /// Writes the places other than u to which u has room at a base, by what is kept beside it if there is something: those
     /// that have something and are in each group that has u and lacks nothing, where u lacks something of q·w.
-    fn reach_noted(&self, q: i128, x: &[i128], note: Option<&Slacks>, u: usize, to: &mut Set)
-        requires factor { IsFactor q }
-        requires entries { length x.now ≡ length self.now.places }
-        requires small { All IsEntry x.now }
-        requires base { IsBase (times q (laminar_value (length self.now.places) self.now.w
-            self.now.groups)) x.now }
-        requires noted { IfSome note (λ n. laminar_fits self.now.w self.now.groups n.now q x.now) }
-        requires from { u < length x.now }
-        requires sized { length to.old ≡ length x.now }
-        ensures { IsReach (times q (laminar_value (length self.now.places) self.now.w
-            self.now.groups)) x.now u to.new }
+    fn reach_noted(&self, at: &At<'_>, note: Option<&Slacks>, u: usize, to: &mut Set)
+        requires factor { IsFactor at.now.q }
+        requires entries { length at.now.x.now ≡ length self.now.places }
+        requires small { All IsEntry at.now.x.now }
+        requires base { IsBase (times at.now.q (laminar_value (length self.now.places) self.now.w
+            self.now.groups)) at.now.x.now }
+        requires noted { IfSome note (λ n. laminar_fits self.now.w self.now.groups n.now at.now.q
+            at.now.x.now) }
+        requires from { u < length at.now.x.now }
+        requires sized { length to.old ≡ length at.now.x.now }
+        ensures { IsReach (times at.now.q (laminar_value (length self.now.places) self.now.w
+            self.now.groups)) at.now.x.now u to.new }
     {
-        if !self.lacks(q, x, u) {
+        if !self.lacks(at, u) {
             to.clear();
             return;
         }
-        put_some(x, note, to);
+        put_some(at.x, note, to);
         to.remove(u);
-        self.keep_full(q, x, note, u, to);
+        self.keep_full(at, note, u, to);
     }
 
     /// Writes the places other than u to which u has room at a base: those that have something and are in each group that
@@ -506,19 +514,20 @@ impl Laminar {
         ensures reached { IsReach (times q (laminar_value (length self.now.places) self.now.w
             self.now.groups)) x.now u to.new }
     {
-        self.reach_noted(q, x, None, u, to);
+        self.reach_noted(&At { q, x }, None, u, to);
     }
 
     /// What each group lacks.
-    fn slacks_of(&self, alloc: Global, q: i128, x: &[i128]) -> Result<Vec<i128>, Memory>
-        requires factor { IsFactor q }
-        requires entries { length x.now ≡ length self.now.places }
-        requires small { All IsEntry x.now }
-        ensures { IfOk result (λ r. AreSlacks q self.now.w self.now.groups x.now r.items) }
+    fn slacks_of(&self, alloc: Global, at: &At<'_>) -> Result<Vec<i128>, Memory>
+        requires factor { IsFactor at.now.q }
+        requires entries { length at.now.x.now ≡ length self.now.places }
+        requires small { All IsEntry at.now.x.now }
+        ensures { IfOk result (λ r. AreSlacks at.now.q self.now.w self.now.groups at.now.x.now
+            r.items) }
     {
         let mut slacks = Vec::new(alloc);
         for i in 0..self.groups.len() {
-            slacks.push(self.slack(q, x, i))?;
+            slacks.push(self.slack(at.q, at.x, i))?;
         }
         Ok(slacks)
     }
@@ -537,36 +546,36 @@ impl Laminar {
     }
 
     /// What the group i lacks once u is raised and v lowered by a.
-    fn moved_slack(&self, slack: i128, i: usize, u: usize, v: usize, a: i128) -> i128
+    fn moved_slack(&self, slack: i128, i: usize, swap: &Swap) -> i128
         requires small { IsAtMost (10 ^ 27) slack }
         requires group { i < length self.now.groups }
-        requires from { u < length self.now.places }
-        requires onto { v < length self.now.places }
-        requires low { pos 0 ≤ℤ a }
-        requires high { a ≤ℤ pos (10 ^ 30) }
+        requires from { swap.now.u < length self.now.places }
+        requires onto { swap.now.v < length self.now.places }
+        requires low { pos 0 ≤ℤ swap.now.a }
+        requires high { swap.now.a ≤ℤ pos (10 ^ 30) }
         ensures { result ≡ ((slack -ℤ share_of (length self.now.places)
-            (group_at self.now.groups i) u a) +ℤ share_of (length self.now.places)
-            (group_at self.now.groups i) v a) }
+            (group_at self.now.groups i) swap.now.u swap.now.a) +ℤ share_of (length self.now.places)
+            (group_at self.now.groups i) swap.now.v swap.now.a) }
     {
-        slack - self.share_in(i, u, a) + self.share_in(i, v, a)
+        slack - self.share_in(i, swap.u, swap.a) + self.share_in(i, swap.v, swap.a)
     }
 
     /// Brings what each group lacks up to an exchange.
-    fn move_slacks(&self, slacks: &mut [i128], u: usize, v: usize, a: i128)
+    fn move_slacks(&self, slacks: &mut [i128], swap: &Swap)
         requires groups { length slacks.old ≡ length self.now.groups }
         requires small { All (IsAtMost (10 ^ 27)) slacks.old }
-        requires from { u < length self.now.places }
-        requires onto { v < length self.now.places }
-        requires low { pos 0 ≤ℤ a }
-        requires high { a ≤ℤ pos (10 ^ 30) }
+        requires from { swap.now.u < length self.now.places }
+        requires onto { swap.now.v < length self.now.places }
+        requires low { pos 0 ≤ℤ swap.now.a }
+        requires high { swap.now.a ≤ℤ pos (10 ^ 30) }
         ensures places { length slacks.new ≡ length slacks.old }
         ensures moved { (i : ℕ) → i < length slacks.old → slice_index_or slacks.new i (pos 0)
             ≡ ((slice_index_or slacks.old i (pos 0) -ℤ share_of (length self.now.places)
-            (group_at self.now.groups i) u a) +ℤ share_of (length self.now.places)
-            (group_at self.now.groups i) v a) }
+            (group_at self.now.groups i) swap.now.u swap.now.a) +ℤ share_of (length self.now.places)
+            (group_at self.now.groups i) swap.now.v swap.now.a) }
     {
         for i in 0..slacks.len() {
-            slacks[i] = self.moved_slack(slacks[i], i, u, v, a);
+            slacks[i] = self.moved_slack(slacks[i], i, swap);
         }
     }
 }
@@ -627,72 +636,53 @@ impl Term for Laminar {
         Ok(self.is_base_of(q, x))
     }
 
-    fn room(
-        &self,
-        _alloc: Global,
-        q: i128,
-        x: &[i128],
-        u: usize,
-        v: usize,
-    ) -> Result<Room, Memory> {
-        Ok(self.room_of(q, x, u, v))
+    fn room(&self, _alloc: Global, at: &At<'_>, u: usize, v: usize) -> Result<Room, Memory> {
+        Ok(self.room_noted(at, None, u, v))
     }
 
-    fn reach(
-        &self,
-        _alloc: Global,
-        q: i128,
-        x: &[i128],
-        u: usize,
-        to: &mut Set,
-    ) -> Result<(), Memory> {
-        self.reach_of(q, x, u, to);
+    fn reach(&self, _alloc: Global, at: &At<'_>, u: usize, to: &mut Set) -> Result<(), Memory> {
+        self.reach_noted(at, None, u, to);
         Ok(())
     }
 
-    fn note(&self, alloc: Global, q: i128, x: &[i128]) -> Result<Slacks, Memory> {
-        let slacks = self.slacks_of(alloc, q, x)?;
-        let support = support_of(alloc, x)?;
+    fn note(&self, alloc: Global, at: &At<'_>) -> Result<Slacks, Memory> {
+        let slacks = self.slacks_of(alloc, at)?;
+        let support = support_of(alloc, at.x)?;
         Ok(Slacks { slacks, support })
     }
 
     fn reach_by(
         &self,
         _alloc: Global,
-        q: i128,
-        x: &[i128],
+        at: &At<'_>,
         note: &mut Slacks,
-        u: usize,
+        lead: &Lead,
         to: &mut Set,
     ) -> Result<(), Memory> {
-        self.reach_noted(q, x, Some(note), u, to);
+        self.reach_noted(at, Some(note), lead.from, to);
         Ok(())
     }
 
     fn room_by(
         &self,
         _alloc: Global,
-        q: i128,
-        x: &[i128],
+        at: &At<'_>,
         note: &mut Slacks,
         u: usize,
         v: usize,
     ) -> Result<Room, Memory> {
-        Ok(self.room_noted(q, x, Some(note), u, v))
+        Ok(self.room_noted(at, Some(note), u, v))
     }
 
     fn moved(
         &self,
         _alloc: Global,
-        _q: i128,
-        x: &[i128],
+        at: &At<'_>,
         note: &mut Slacks,
-        u: usize,
-        v: usize,
-        a: i128,
+        swap: &Swap,
     ) -> Result<(), Memory> {
-        self.move_slacks(&mut note.slacks, u, v, a);
-        move_support(x, &mut note.support, u, v, a);
+        self.move_slacks(&mut note.slacks, swap);
+        move_support(at.x, &mut note.support, swap);
         Ok(())
     }
 }

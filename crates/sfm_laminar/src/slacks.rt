@@ -5,7 +5,7 @@ ghost use Rattle.sfm_spec.specs.{Bounds.{IsEntry}, Terms.{exchanged}};
 ghost use Rattle.sfm_laminar.specs.Slacks.{IsSupport};
 
 use sfm_base::{Memory, Set};
-use sfm_law::put_over;
+use sfm_law::{Swap, put_over};
 use std::alloc::Global;
 
 /// What each group lacks, and the places that have something.
@@ -74,16 +74,16 @@ pub(crate) fn put_some(x: &[i128], note: Option<&Slacks>, to: &mut Set)
 }
 
 /// Brings the places that have something up to an exchange.
-pub(crate) fn move_support(x: &[i128], support: &mut Set, u: usize, v: usize, a: i128)
+pub(crate) fn move_support(x: &[i128], support: &mut Set, swap: &Swap)
     requires small { All IsEntry x.now }
-    requires apart { u ≢ v }
-    requires from { u < length x.now }
-    requires onto { v < length x.now }
-    requires low { pos 0 ≤ℤ a }
-    requires high { a ≤ℤ pos (10 ^ 30) }
+    requires apart { swap.now.u ≢ swap.now.v }
+    requires from { swap.now.u < length x.now }
+    requires onto { swap.now.v < length x.now }
+    requires low { pos 0 ≤ℤ swap.now.a }
+    requires high { swap.now.a ≤ℤ pos (10 ^ 30) }
     requires before { IsSupport x.now support.old }
-    ensures { IsSupport (exchanged x.now u v a) support.new }
+    ensures { IsSupport (exchanged x.now swap.now.u swap.now.v swap.now.a) support.new }
 {
-    support.put(u, is_some(x[u] + a));
-    support.put(v, is_some(x[v] - a));
+    support.put(swap.u, is_some(x[swap.u] + swap.a));
+    support.put(swap.v, is_some(x[swap.v] - swap.a));
 }

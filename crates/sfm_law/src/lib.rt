@@ -1,6 +1,7 @@
 // What a term of a sum is, the exchange at a base, and the facts that hold of every term.
 #![tactic(auto)]
 
+pub mod at;
 pub mod breaks;
 pub mod laws;
 pub mod moves;
@@ -13,6 +14,7 @@ pub mod term;
 pub mod values;
 pub mod walk;
 
+pub use at::{At, Lead, Swap};
 pub use breaks::Break;
 pub use moves::exchange;
 pub use numbers::{are_within, has_sum, least_left, magnitude, product, sum_of};

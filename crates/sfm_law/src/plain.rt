@@ -5,6 +5,7 @@ ghost use Rattle.std.specs.{Prelude.{◌≡◌, ◌≢◌, ◌↔◌, ℕ, ◌<�
 ghost use Rattle.sfm_spec.specs.{Bounds.{IsEntry, IsFactor}, Terms.{SetFunction, times, IsBase, IsFamily, IsSubmodular, exchanged}};
 ghost use Rattle.sfm_law.specs.Room.{IsRoom, IsReach, IsWithinRoom};
 
+use crate::at::{At, Lead, Swap};
 use crate::room::Room;
 use crate::term::Term;
 use sfm_base::{Memory, Set};
@@ -140,55 +141,37 @@ impl<T: Plain> Term for T {
         Ok(self.is_base_of(q, x))
     }
 
-    fn room(
-        &self,
-        _alloc: Global,
-        q: i128,
-        x: &[i128],
-        u: usize,
-        v: usize,
-    ) -> Result<Room, Memory> {
-        Ok(self.room_of(q, x, u, v))
+    fn room(&self, _alloc: Global, at: &At<'_>, u: usize, v: usize) -> Result<Room, Memory> {
+        Ok(self.room_of(at.q, at.x, u, v))
     }
 
-    fn reach(
-        &self,
-        _alloc: Global,
-        q: i128,
-        x: &[i128],
-        u: usize,
-        to: &mut Set,
-    ) -> Result<(), Memory> {
-        self.reach_of(q, x, u, to);
+    fn reach(&self, _alloc: Global, at: &At<'_>, u: usize, to: &mut Set) -> Result<(), Memory> {
+        self.reach_of(at.q, at.x, u, to);
         Ok(())
     }
 
-    fn note(&self, _alloc: Global, _q: i128, _x: &[i128]) -> Result<(), Memory> {
+    fn note(&self, _alloc: Global, _at: &At<'_>) -> Result<(), Memory> {
         Ok(())
     }
 
     fn reach_by(
         &self,
         _alloc: Global,
-        q: i128,
-        x: &[i128],
+        at: &At<'_>,
         _note: &mut (),
-        u: usize,
+        lead: &Lead,
         to: &mut Set,
     ) -> Result<(), Memory> {
-        self.reach_of(q, x, u, to);
+        self.reach_of(at.q, at.x, lead.from, to);
         Ok(())
     }
 
     fn moved(
         &self,
         _alloc: Global,
-        _q: i128,
-        _x: &[i128],
+        _at: &At<'_>,
         _note: &mut (),
-        _u: usize,
-        _v: usize,
-        _a: i128,
+        _swap: &Swap,
     ) -> Result<(), Memory> {
         Ok(())
     }

@@ -1,9 +1,10 @@
 // What a term of a sum is: a submodular function of a few places, with a test of bases, exchange capacities,
 // and a first base. Everything above speaks of terms by this trait alone.
-ghost use Rattle.std.specs.{Prelude.{◌≡◌, ◌≢◌, ◌↔◌, ℕ, ◌<◌, ◌^◌, Bool, List, length, ℤ, pos, neg_ℤ, ◌*ℤ◌, ◌≤ℤ◌, IfOk, IsOk, OnOk, IsTrue, Some}, List.{All}};
+ghost use Rattle.std.specs.{Prelude.{◌≡◌, ◌↔◌, ℕ, ◌<◌, ◌^◌, Bool, List, length, ℤ, pos, neg_ℤ, ◌*ℤ◌, ◌≤ℤ◌, IfOk, IsOk, OnOk, IsTrue, Some}, List.{All}};
 ghost use Rattle.sfm_spec.specs.{Bounds.{IsEntry, IsFactor}, Rows.{Depends}, Terms.{SetFunction, times, IsBase, IsFamily, IsSubmodular, exchanged}};
-ghost use Rattle.sfm_law.specs.Room.{IsRoom, IsReach, IsWithinRoom};
+ghost use Rattle.sfm_law.specs.{Based.{IsBased, IsPair, CanSwap}, Room.{IsRoom, IsReach}};
 
+use crate::at::{At, Lead, Swap};
 use crate::room::Room;
 use sfm_base::{Memory, Set};
 use std::alloc::Global;
@@ -80,150 +81,83 @@ pub trait Term {
         ensures sure { lean_calls self.now → IsOk result };
 
     /// The room of (u, v) at a base.
-    fn room(&self, alloc: Global, q: i128, x: &[i128], u: usize, v: usize) -> Result<Room, Memory>
-        requires factor { IsFactor q }
-        requires entries { length x.now ≡ length (places self.now) }
-        requires bounded { size_of self.now ≤ℤ pos (10 ^ 18) }
-        requires small { All IsEntry x.now }
-        requires base { IsBase (times q (value_of self.now)) x.now }
-        requires apart { u ≢ v }
-        requires from { u < length x.now }
-        requires onto { v < length x.now }
-        ensures room { IfOk result (IsRoom (times q (value_of self.now)) x.now u v) }
+    fn room(&self, alloc: Global, at: &At<'_>, u: usize, v: usize) -> Result<Room, Memory>
+        requires based { IsBased places value_of size_of self.now at.now.q at.now.x.now }
+        requires pair { IsPair u v at.now.x.now }
+        ensures room { IfOk result (IsRoom (times at.now.q (value_of self.now)) at.now.x.now u v) }
         ensures sure { lean_calls self.now → IsOk result };
 
     /// Writes the places other than u to which u has room at a base.
-    fn reach(
-        &self,
-        alloc: Global,
-        q: i128,
-        x: &[i128],
-        u: usize,
-        to: &mut Set,
-    ) -> Result<(), Memory>
-        requires factor { IsFactor q }
-        requires entries { length x.now ≡ length (places self.now) }
-        requires bounded { size_of self.now ≤ℤ pos (10 ^ 18) }
-        requires small { All IsEntry x.now }
-        requires base { IsBase (times q (value_of self.now)) x.now }
-        requires from { u < length x.now }
-        requires room_for_answer { length to.old ≡ length x.now }
+    fn reach(&self, alloc: Global, at: &At<'_>, u: usize, to: &mut Set) -> Result<(), Memory>
+        requires based { IsBased places value_of size_of self.now at.now.q at.now.x.now }
+        requires from { u < length at.now.x.now }
+        requires room_for_answer { length to.old ≡ length at.now.x.now }
         ensures places { length to.new ≡ length to.old }
-        ensures reached { OnOk result (IsReach (times q (value_of self.now)) x.now u to.new) }
+        ensures reached { OnOk result (IsReach (times at.now.q (value_of self.now)) at.now.x.now u
+            to.new) }
         ensures sure { lean_calls self.now → IsOk result };
 
     /// A note that fits a base.
-    fn note(&self, alloc: Global, q: i128, x: &[i128]) -> Result<Self::Note, Memory>
-        requires factor { IsFactor q }
-        requires entries { length x.now ≡ length (places self.now) }
-        requires bounded { size_of self.now ≤ℤ pos (10 ^ 18) }
-        requires small { All IsEntry x.now }
-        requires base { IsBase (times q (value_of self.now)) x.now }
-        ensures { IfOk result (λ r. fits self.now r q x.now) };
+    fn note(&self, alloc: Global, at: &At<'_>) -> Result<Self::Note, Memory>
+        requires { IsBased places value_of size_of self.now at.now.q at.now.x.now }
+        ensures { IfOk result (λ r. fits self.now r at.now.q at.now.x.now) };
 
-    /// Writes what `reach` does, by a note that fits the base, which fits it still: it may remember what was found. After want
+    /// Writes the places other than the first of a lead to which that has room, by a note that fits the base, which fits it
+    /// still: it may remember what was found. A note that was last moved to raise the second may find that sooner. After want
     /// of memory nothing is said of the note.
     fn reach_by(
         &self,
         alloc: Global,
-        q: i128,
-        x: &[i128],
+        at: &At<'_>,
         note: &mut Self::Note,
-        u: usize,
+        lead: &Lead,
         to: &mut Set,
     ) -> Result<(), Memory>
-        requires factor { IsFactor q }
-        requires entries { length x.now ≡ length (places self.now) }
-        requires bounded { size_of self.now ≤ℤ pos (10 ^ 18) }
-        requires small { All IsEntry x.now }
-        requires base { IsBase (times q (value_of self.now)) x.now }
-        requires noted { fits self.now note.old q x.now }
-        requires from { u < length x.now }
-        requires room_for_answer { length to.old ≡ length x.now }
+        requires based { IsBased places value_of size_of self.now at.now.q at.now.x.now }
+        requires noted { fits self.now note.old at.now.q at.now.x.now }
+        requires from { lead.now.from < length at.now.x.now }
+        requires onto { lead.now.onto < length at.now.x.now }
+        requires leads { Depends (times at.now.q (value_of self.now)) at.now.x.now lead.now.from
+            lead.now.onto }
+        requires room_for_answer { length to.old ≡ length at.now.x.now }
         ensures places { length to.new ≡ length to.old }
-        ensures reached { OnOk result (IsReach (times q (value_of self.now)) x.now u to.new) }
-        ensures noted { OnOk result (fits self.now note.new q x.now) };
+        ensures reached { OnOk result (IsReach (times at.now.q (value_of self.now)) at.now.x.now
+            lead.now.from to.new) }
+        ensures noted { OnOk result (fits self.now note.new at.now.q at.now.x.now) };
 
     /// The room of (u, v) at a base, by a note that fits it, which fits it still. After want of memory nothing is said
     /// of the note.
     fn room_by(
         &self,
         alloc: Global,
-        q: i128,
-        x: &[i128],
+        at: &At<'_>,
         _note: &mut Self::Note,
         u: usize,
         v: usize,
     ) -> Result<Room, Memory>
-        requires factor { IsFactor q }
-        requires entries { length x.now ≡ length (places self.now) }
-        requires bounded { size_of self.now ≤ℤ pos (10 ^ 18) }
-        requires small { All IsEntry x.now }
-        requires base { IsBase (times q (value_of self.now)) x.now }
-        requires noted { fits self.now _note.old q x.now }
-        requires apart { u ≢ v }
-        requires from { u < length x.now }
-        requires onto { v < length x.now }
-        ensures room { IfOk result (IsRoom (times q (value_of self.now)) x.now u v) }
-        ensures noted { OnOk result (fits self.now _note.new q x.now) }
+        requires based { IsBased places value_of size_of self.now at.now.q at.now.x.now }
+        requires noted { fits self.now _note.old at.now.q at.now.x.now }
+        requires pair { IsPair u v at.now.x.now }
+        ensures room { IfOk result (IsRoom (times at.now.q (value_of self.now)) at.now.x.now u v) }
+        ensures noted { OnOk result (fits self.now _note.new at.now.q at.now.x.now) }
     {
-        self.room(alloc, q, x, u, v)
+        self.room(alloc, at, u, v)
     }
 
-    /// Writes what `reach` does from a place that is s or has room to it, by a note that fits the base, which fits it still. A
-    /// note that was last moved to raise s may find that sooner. After want of memory nothing is said of the note.
-    fn reach_with(
-        &self,
-        alloc: Global,
-        q: i128,
-        x: &[i128],
-        note: &mut Self::Note,
-        _s: usize,
-        u: usize,
-        to: &mut Set,
-    ) -> Result<(), Memory>
-        requires factor { IsFactor q }
-        requires entries { length x.now ≡ length (places self.now) }
-        requires bounded { size_of self.now ≤ℤ pos (10 ^ 18) }
-        requires small { All IsEntry x.now }
-        requires base { IsBase (times q (value_of self.now)) x.now }
-        requires noted { fits self.now note.old q x.now }
-        requires onto { _s < length x.now }
-        requires from { u < length x.now }
-        requires leads { Depends (times q (value_of self.now)) x.now u _s }
-        requires room_for_answer { length to.old ≡ length x.now }
-        ensures places { length to.new ≡ length to.old }
-        ensures reached { OnOk result (IsReach (times q (value_of self.now)) x.now u to.new) }
-        ensures noted { OnOk result (fits self.now note.new q x.now) }
-    {
-        self.reach_by(alloc, q, x, note, u, to)
-    }
-
-    /// Brings a note that fits a base up to the base with u raised and v lowered by a. After want of memory nothing
-    /// is said of the note.
+    /// Brings a note that fits a base up to the base that an exchange makes. After want of memory nothing is said of the note.
     fn moved(
         &self,
         alloc: Global,
-        q: i128,
-        x: &[i128],
+        at: &At<'_>,
         note: &mut Self::Note,
-        u: usize,
-        v: usize,
-        a: i128,
+        swap: &Swap,
     ) -> Result<(), Memory>
-        requires factor { IsFactor q }
-        requires entries { length x.now ≡ length (places self.now) }
-        requires bounded { size_of self.now ≤ℤ pos (10 ^ 18) }
-        requires small { All IsEntry x.now }
-        requires base { IsBase (times q (value_of self.now)) x.now }
-        requires noted { fits self.now note.old q x.now }
-        requires apart { u ≢ v }
-        requires from { u < length x.now }
-        requires onto { v < length x.now }
-        requires low { pos 0 ≤ℤ a }
-        requires high { a ≤ℤ pos (10 ^ 30) }
-        requires room { IsWithinRoom (times q (value_of self.now)) x.now u v a }
-        ensures { OnOk result (fits self.now note.new q (exchanged x.now u v a)) };
+        requires based { IsBased places value_of size_of self.now at.now.q at.now.x.now }
+        requires noted { fits self.now note.old at.now.q at.now.x.now }
+        requires can { CanSwap (times at.now.q (value_of self.now)) at.now.x.now swap.now.u
+            swap.now.v swap.now.a }
+        ensures { OnOk result (fits self.now note.new at.now.q (exchanged at.now.x.now swap.now.u
+            swap.now.v swap.now.a)) };
 
     /// The empty and the whole part are allowed, and unions and intersections of allowed parts are.
     ghost family: { (term : Self) → IsFamily (length (places term)) (value_of term) };

@@ -1,13 +1,13 @@
 -- What graphic and transversal terms share: facts of a factor times any weighted rank, by numbers as they are passed on in 128
 -- bits.
-use Rattle.std.proofs.Common.{◌≡◌, ◌≢◌, ◌↔◌, ◌∙◌, ◌^◌, IsTrue, ℕ, ◌<◌, Bool, true, false, List, length, ℤ, pos, ◌*ℤ◌, ◌≤ℤ◌, to_z, of_z, FitsSigned}
+use Rattle.std.proofs.Common.{◌≡◌, ◌↔◌, ◌∙◌, ◌^◌, IsTrue, ℕ, Bool, true, false, List, length, ℤ, pos, ◌*ℤ◌, ◌≤ℤ◌, to_z, of_z, FitsSigned}
 use Rattle.std.specs.List.{All}
 use Rattle.std.proofs.lemmas.Int.{to_z-of_z}
 use mir.Syntax.{w128}
 use Rattle.sfm_spec.specs.Bounds.{IsAtMost, IsGiven, total_of}
 use Rattle.sfm_spec.specs.Terms.{SetFunction, IsBase, exchanged}
 use Rattle.sfm_spec.proofs.Sums.{length-exchanged}
-use Rattle.sfm_law.specs.Room.{IsWithinRoom}
+use Rattle.sfm_law.specs.Based.{CanSwap}
 use Rattle.sfm_law.proofs.Fits.{given_fits, rank_fits}
 use Rattle.sfm_law.proofs.Rooms.{base_within_room}
 use Rattle.sfm_rank.specs.Terms.{at_places}
@@ -40,12 +40,18 @@ start_passed q w fq given set basis same x is =
     rw same at (simp to_z-of_z at is)
 
 -- the entries of a base, and of that which an exchange leads to
-module _ (k : ℕ) (f : SetFunction) (c : ℤ) (capped : (y : List ℤ) → length y ≡ k → IsBase f y → AreCapped c y) (x : List ℤ) (kx : length x ≡ k) (base : IsBase f x) (u v : ℕ) (xu : u < length x) (xv : v < length x) (ne : u ≢ v) (a : ℤ) (low : pos 0 ≤ℤ a) (room : IsWithinRoom f x u v a) where
+module _ (k : ℕ) (f : SetFunction) (c : ℤ) (capped : (y : List ℤ) → length y ≡ k → IsBase f y → AreCapped c y) (x : List ℤ) (kx : length x ≡ k) (base : IsBase f x) (u v : ℕ) (a : ℤ) (can : CanSwap f x u v a) where
   pub exchanged_places : length (exchanged x u v a) ≡ k
   exchanged_places = length-exchanged x u v a ∙ kx
 
   pub exchanged_base : IsBase f (exchanged x u v a)
-  exchanged_base = base_within_room a base xu xv ne low room
+  exchanged_base = base_within_room a base can.from can.onto can.apart can.low can.room
 
-  pub can_move : FitsSigned w128 a → CanMove x u v (to_z w128 (of_z w128 a))
-  can_move fa = simp to_z-of_z (record { from = xu; onto = xv; apart = ne; before = capped_amounts c x (capped x kx base); after = capped_amounts c (exchanged x u v a) (capped (exchanged x u v a) exchanged_places exchanged_base) })
+  pub can_move : CanMove x u v a
+  can_move = record {
+    from = can.from;
+    onto = can.onto;
+    apart = can.apart;
+    before = capped_amounts c x (capped x kx base);
+    after = capped_amounts c (exchanged x u v a) (capped (exchanged x u v a) exchanged_places exchanged_base);
+  }

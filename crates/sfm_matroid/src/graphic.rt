@@ -19,7 +19,7 @@ use crate::rooted::RootSplit;
 use crate::splits::split_of;
 use crate::testing::{brought, capacities, end_demand, passes_tails};
 use sfm_base::{Memory, Places, Set};
-use sfm_law::{Room, Term};
+use sfm_law::{At, Lead, Room, Swap, Term};
 use std::alloc::Global;
 use std::mem;
 
@@ -152,20 +152,21 @@ impl Graphic {
     fn bring(
         &self,
         alloc: Global,
-        q: i128,
-        x: &[i128],
+        at: &At<'_>,
         note: &mut RootSplit,
         root: usize,
     ) -> Result<(), Memory>
-        requires base { IsGraphicBase (length self.now.places) self.now.w self.now.ends q x.now }
+        requires base { IsGraphicBase (length self.now.places) self.now.w self.now.ends at.now.q
+            at.now.x.now }
         requires vertex { root < vertex_count self.now.ends }
         requires over { AreOverEnds (numbered self.now.ends)
             (vertex_count self.now.ends) note.old.pair }
         ensures root { OnOk result (note.new.root ≡ root) }
-        ensures noted { OnOk result (graphic_fits self.now.w self.now.ends note.new q x.now) }
+        ensures noted { OnOk result (graphic_fits self.now.w self.now.ends note.new at.now.q
+            at.now.x.now) }
     {
-        let cap = cap_of(q, self.w);
-        if !brought(alloc, &self.graph, &mut note.pair.kept, x, cap, root)? {
+        let cap = cap_of(at.q, self.w);
+        if !brought(alloc, &self.graph, &mut note.pair.kept, at.x, cap, root)? {
             unreachable!();
         }
         note.root = root;
@@ -180,22 +181,23 @@ impl Graphic {
     fn root_near(
         &self,
         alloc: Global,
-        q: i128,
-        x: &[i128],
+        at: &At<'_>,
         note: &mut RootSplit,
         u: usize,
     ) -> Result<(), Memory>
-        requires base { IsGraphicBase (length self.now.places) self.now.w self.now.ends q x.now }
-        requires noted { graphic_fits self.now.w self.now.ends note.old q x.now }
+        requires base { IsGraphicBase (length self.now.places) self.now.w self.now.ends at.now.q
+            at.now.x.now }
+        requires noted { graphic_fits self.now.w self.now.ends note.old at.now.q at.now.x.now }
         requires place { u < length self.now.places }
         ensures end { OnOk result (IsEndOf (numbered self.now.ends) u note.new.root) }
-        ensures noted { OnOk result (graphic_fits self.now.w self.now.ends note.new q x.now) }
+        ensures noted { OnOk result (graphic_fits self.now.w self.now.ends note.new at.now.q
+            at.now.x.now) }
     {
         let root = self.end_near(note.root, u);
         if root == note.root {
             return Ok(());
         }
-        self.bring(alloc, q, x, note, root)
+        self.bring(alloc, at, note, root)
     }
 
     /// Whether there is a spare split, with its root at an end of u.
@@ -298,28 +300,21 @@ impl Term for Graphic {
     }
 
     /// The room of (u, v) at a base, by a note that is made for it.
-    fn room(&self, alloc: Global, q: i128, x: &[i128], u: usize, v: usize) -> Result<Room, Memory> {
-        let mut note = self.note(alloc, q, x)?;
-        self.room_by(alloc, q, x, &mut note, u, v)
+    fn room(&self, alloc: Global, at: &At<'_>, u: usize, v: usize) -> Result<Room, Memory> {
+        let mut note = self.note(alloc, at)?;
+        self.room_by(alloc, at, &mut note, u, v)
     }
 
     /// Writes the places other than u to which u has room at a base, by a note that is made for it.
-    fn reach(
-        &self,
-        alloc: Global,
-        q: i128,
-        x: &[i128],
-        u: usize,
-        to: &mut Set,
-    ) -> Result<(), Memory> {
-        let mut note = self.note(alloc, q, x)?;
-        self.reach_by(alloc, q, x, &mut note, u, to)
+    fn reach(&self, alloc: Global, at: &At<'_>, u: usize, to: &mut Set) -> Result<(), Memory> {
+        let mut note = self.note(alloc, at)?;
+        self.reach_by(alloc, at, &mut note, &Lead { from: u, onto: u }, to)
     }
 
     /// The split in the test of a vertex.
-    fn note(&self, alloc: Global, q: i128, x: &[i128]) -> Result<RootSplit, Memory> {
-        let cap = cap_of(q, self.w);
-        let demand = end_demand(alloc, &self.graph, x, cap, 0)?;
+    fn note(&self, alloc: Global, at: &At<'_>) -> Result<RootSplit, Memory> {
+        let cap = cap_of(at.q, self.w);
+        let demand = end_demand(alloc, &self.graph, at.x, cap, 0)?;
         let kept = split_of(alloc, demand)?;
         Ok(RootSplit {
             pair: SplitPair { kept, spare: None },
@@ -328,17 +323,20 @@ impl Term for Graphic {
         })
     }
 
-    /// Writes what `reach_with` does from u itself.
+    /// Writes the places other than the first of a lead to which that has room at a base, by the split that is kept, with its root
+    /// at an end of the second.
     fn reach_by(
         &self,
         alloc: Global,
-        q: i128,
-        x: &[i128],
+        at: &At<'_>,
         note: &mut RootSplit,
-        u: usize,
+        lead: &Lead,
         to: &mut Set,
     ) -> Result<(), Memory> {
-        self.reach_with(alloc, q, x, note, u, u, to)
+        self.root_near(alloc, at, note, lead.onto)?;
+        let cap = cap_of(at.q, self.w);
+        row(alloc, &mut note.pair.kept, at.x, cap, lead.from, to)?;
+        Ok(())
     }
 
     /// The room of (u, v) at a base, by a second split beside the one that is kept, which is brought to what stays without v, with
@@ -346,54 +344,32 @@ impl Term for Graphic {
     fn room_by(
         &self,
         alloc: Global,
-        q: i128,
-        x: &[i128],
+        at: &At<'_>,
         note: &mut RootSplit,
         u: usize,
         v: usize,
     ) -> Result<Room, Memory> {
-        let cap = cap_of(q, self.w);
+        let cap = cap_of(at.q, self.w);
         let root = self.end_near(note.root, u);
-        let pull = pull_of(x, cap, u, v);
+        let pull = pull_of(at.x, cap, u, v);
         let held = capacities(alloc, self.graph.vertices, cap, root)?;
         note.spare_root = root;
-        let most = note.pair.raise_spare(alloc, &held, x, &pull)?;
+        let most = note.pair.raise_spare(alloc, &held, at.x, &pull)?;
         Ok(Room::Upto(most))
     }
 
-    /// Writes the places other than u to which u has room at a base, where u is s or has room to it: by the split that is kept,
-    /// with its root at an end of s.
-    fn reach_with(
-        &self,
-        alloc: Global,
-        q: i128,
-        x: &[i128],
-        note: &mut RootSplit,
-        s: usize,
-        u: usize,
-        to: &mut Set,
-    ) -> Result<(), Memory> {
-        self.root_near(alloc, q, x, note, s)?;
-        let cap = cap_of(q, self.w);
-        row(alloc, &mut note.pair.kept, x, cap, u, to)?;
-        Ok(())
-    }
-
-    /// Brings what is kept beside a base to the exchanged one, with the root at an end of u: the spare split, or else the one that
-    /// is kept.
+    /// Brings what is kept beside a base to the exchanged one, with the root at an end of the place that is raised: the spare
+    /// split, or else the one that is kept.
     fn moved(
         &self,
         alloc: Global,
-        q: i128,
-        x: &[i128],
+        at: &At<'_>,
         note: &mut RootSplit,
-        u: usize,
-        v: usize,
-        a: i128,
+        swap: &Swap,
     ) -> Result<(), Memory> {
-        let after = moved(alloc, x, u, v, a)?;
-        self.take_spare(note, u);
-        let root = self.end_near(note.root, u);
-        self.bring(alloc, q, &after, note, root)
+        let after = moved(alloc, at.x, swap)?;
+        self.take_spare(note, swap.u);
+        let root = self.end_near(note.root, swap.u);
+        self.bring(alloc, &At { q: at.q, x: &after }, note, root)
     }
 }

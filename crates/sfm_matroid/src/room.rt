@@ -7,6 +7,7 @@ ghost use Rattle.sfm_matroid.specs.Amounts.{AreCapped, CanMove, IsRaise, IsBesid
 
 use sfm_assign::{Aim, Kept};
 use sfm_base::Memory;
+use sfm_law::Swap;
 use std::alloc::Global;
 
 /// A place that gets something, one that gives it, and how much that may be.
@@ -43,20 +44,14 @@ fn without(alloc: Global, x: &[i128], v: usize) -> Result<Vec<i128>, Memory>
     Ok(rest)
 }
 
-/// The entries, with a more at u and a less at v.
-pub(crate) fn moved(
-    alloc: Global,
-    x: &[i128],
-    u: usize,
-    v: usize,
-    a: i128,
-) -> Result<Vec<i128>, Memory>
-    requires { CanMove x.now u v a }
-    ensures { IfOk result (λ r. r.items ≡ exchanged x.now u v a) }
+/// The entries after an exchange.
+pub(crate) fn moved(alloc: Global, x: &[i128], swap: &Swap) -> Result<Vec<i128>, Memory>
+    requires { CanMove x.now swap.now.u swap.now.v swap.now.a }
+    ensures { IfOk result (λ r. r.items ≡ exchanged x.now swap.now.u swap.now.v swap.now.a) }
 {
     let mut after = Vec::from_slice(alloc, x)?;
-    after[u] = x[u] + a;
-    after[v] = x[v] - a;
+    after[swap.u] = x[swap.u] + swap.a;
+    after[swap.v] = x[swap.v] - swap.a;
     Ok(after)
 }
 

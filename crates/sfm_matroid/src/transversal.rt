@@ -16,7 +16,7 @@ use crate::ranked::{adds_up, cap_of, worth, write_start};
 use crate::room::{moved, pull_of};
 use crate::splits::{SlotSplit, bring_split, slot_split, try_split};
 use sfm_base::{Memory, Places, Set};
-use sfm_law::{Room, Term};
+use sfm_law::{At, Lead, Room, Swap, Term};
 use std::alloc::Global;
 
 /// A number for each element of a greatest independent part: elements are independent where they have slots of their own
@@ -155,8 +155,7 @@ impl Term for Transversal {
         self.places.as_slice()
     }
 
-    // These two, and `reach_with`, are as in the trait. As they stand here, nothing has to be proved of how notes of any kind are
-    // let go.
+    // These two are as in the trait. As they stand here, nothing has to be proved of how notes of any kind are let go.
     fn order(&self) -> Option<&[usize]> {
         None
     }
@@ -203,58 +202,36 @@ impl Term for Transversal {
     }
 
     /// The room of (u, v) at a base, by a note that is made for it.
-    fn room(&self, alloc: Global, q: i128, x: &[i128], u: usize, v: usize) -> Result<Room, Memory> {
-        let mut note = self.note(alloc, q, x)?;
-        self.room_by(alloc, q, x, &mut note, u, v)
+    fn room(&self, alloc: Global, at: &At<'_>, u: usize, v: usize) -> Result<Room, Memory> {
+        let mut note = self.note(alloc, at)?;
+        self.room_by(alloc, at, &mut note, u, v)
     }
 
     /// Writes the places other than u to which u has room at a base, by a note that is made for it.
-    fn reach(
-        &self,
-        alloc: Global,
-        q: i128,
-        x: &[i128],
-        u: usize,
-        to: &mut Set,
-    ) -> Result<(), Memory> {
-        let mut note = self.note(alloc, q, x)?;
-        self.reach_by(alloc, q, x, &mut note, u, to)
+    fn reach(&self, alloc: Global, at: &At<'_>, u: usize, to: &mut Set) -> Result<(), Memory> {
+        let mut note = self.note(alloc, at)?;
+        self.reach_by(alloc, at, &mut note, &Lead { from: u, onto: u }, to)
     }
 
     /// The split in the test that tells a base.
-    fn note(&self, alloc: Global, q: i128, x: &[i128]) -> Result<SlotSplit, Memory> {
-        let cap = cap_of(q, self.w);
+    fn note(&self, alloc: Global, at: &At<'_>) -> Result<SlotSplit, Memory> {
+        let cap = cap_of(at.q, self.w);
         let m = self.entries.above();
-        slot_split(alloc, &self.entries, m, x, cap)
+        slot_split(alloc, &self.entries, m, at.x, cap)
     }
 
-    /// Writes the places other than u to which u has room at a base, by the split that is kept beside it.
+    /// Writes the places other than the first of a lead to which that has room at a base, by the split that is kept beside it.
     fn reach_by(
         &self,
         alloc: Global,
-        q: i128,
-        x: &[i128],
+        at: &At<'_>,
         note: &mut SlotSplit,
-        u: usize,
+        lead: &Lead,
         to: &mut Set,
     ) -> Result<(), Memory> {
-        let cap = cap_of(q, self.w);
-        row(alloc, &mut note.pair.kept, x, cap, u, to)?;
+        let cap = cap_of(at.q, self.w);
+        row(alloc, &mut note.pair.kept, at.x, cap, lead.from, to)?;
         Ok(())
-    }
-
-    /// Writes what `reach_by` does.
-    fn reach_with(
-        &self,
-        alloc: Global,
-        q: i128,
-        x: &[i128],
-        note: &mut SlotSplit,
-        _s: usize,
-        u: usize,
-        to: &mut Set,
-    ) -> Result<(), Memory> {
-        self.reach_by(alloc, q, x, note, u, to)
     }
 
     /// The room of (u, v) at a base, by a second split beside the one that is kept, which stays. The second one, with nothing at v
@@ -262,18 +239,17 @@ impl Term for Transversal {
     fn room_by(
         &self,
         alloc: Global,
-        q: i128,
-        x: &[i128],
+        at: &At<'_>,
         note: &mut SlotSplit,
         u: usize,
         v: usize,
     ) -> Result<Room, Memory> {
-        let cap = cap_of(q, self.w);
-        let pull = pull_of(x, cap, u, v);
+        let cap = cap_of(at.q, self.w);
+        let pull = pull_of(at.x, cap, u, v);
         if pull.limit == 0 {
             return Ok(Room::Upto(0));
         }
-        let most = note.pair.raise_spare(alloc, &note.capacities, x, &pull)?;
+        let most = note.pair.raise_spare(alloc, &note.capacities, at.x, &pull)?;
         Ok(Room::Upto(most))
     }
 
@@ -281,14 +257,11 @@ impl Term for Transversal {
     fn moved(
         &self,
         alloc: Global,
-        _q: i128,
-        x: &[i128],
+        at: &At<'_>,
         note: &mut SlotSplit,
-        u: usize,
-        v: usize,
-        a: i128,
+        swap: &Swap,
     ) -> Result<(), Memory> {
-        let after = moved(alloc, x, u, v, a)?;
+        let after = moved(alloc, at.x, swap)?;
         note.pair.swap();
         bring_split(alloc, &mut note.pair.kept, &after, &note.capacities)
     }

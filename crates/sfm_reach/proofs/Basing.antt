@@ -11,7 +11,7 @@ use Rattle.sfm_spec.specs.Walks.{base_at}
 use Rattle.sfm_spec.proofs.Sums.{length-exchanged}
 use Rattle.sfm_spec.proofs.Walks.{bases-at}
 use Rattle.sfm_law.proofs.Lists.{all-at, below-total, meanings-at, length-meanings, length-bases}
-use Rattle.sfm_reach.specs.Based.{AreBased, IsBased}
+use Rattle.sfm_reach.specs.Based.{AreBased, IsPlacedBase}
 
 -- bounds on values are not negative
 pub size_low : {X : Type 0} (places : X → List ℕ) (value : X → SetFunction) (size : X → ℤ) → ((x : X) → IsSubmodular (length (places x)) (value x))
@@ -25,18 +25,20 @@ sizes_all size terms sound small = below-total (map size terms) (pos (10 ^ 18)) 
 module _ {X : Type 0} (places : X → List ℕ) (value : X → SetFunction) (size : X → ℤ) (sound : (x : X) → pos 0 ≤ℤ size x) (terms : List X) (n : ℕ) (q : ℤ) (rows : List (List ℤ)) (bounded : AreBounded n (map places terms) (map size terms))
     (factor : IsFactor q) (bases : AreBases q (meanings places value terms) rows) where
   -- the row of a term is a base of it within the bounds
-  pub is_based : (i : ℕ) → i < length terms → (term : X) → term ≡ get_or terms i term → All IsEntry (base_at rows i) → IsBased places value size term q (base_at rows i)
+  pub is_based : (i : ℕ) → i < length terms → (term : X) → term ≡ get_or terms i term → All IsEntry (base_at rows i) → IsPlacedBase places value size term q (base_at rows i)
   is_based i l term is small =
       let placed = all-at (IsPlaced n) places terms i term l is bounded.placed in
       let means = meanings-at places value terms i term l is in
       let base = bases-at q (meanings places value terms) rows i bases (rw (length-meanings places value terms) l) in
       record {
-        factor = factor;
         placed = record { below = λ j lj. let b = placed.below j lj in omega (arith, b, bounded.few); distinct = placed.distinct };
-        entries = base.0 ∙ ap (λ (m : Meaning). length m.places) means;
-        bounded = all-at (λ a. a ≤ℤ pos (10 ^ 18)) size terms i term l is (sizes_all size terms sound bounded.small);
-        small = small;
-        base = rw means at base.1;
+        based = record {
+          factor = factor;
+          entries = base.0 ∙ ap (λ (m : Meaning). length m.places) means;
+          bounded = all-at (λ a. a ≤ℤ pos (10 ^ 18)) size terms i term l is (sizes_all size terms sound bounded.small);
+          small = small;
+          base = rw means at base.1;
+        };
       }
 
 -- and so all are
@@ -51,13 +53,9 @@ are_based {places} {value} {size} {terms} {n} {q} {rows} law range bounded facto
   count = length-bases q (meanings places value terms) rows bases ∙ length-meanings places value terms
 
 -- and still after an exchange that keeps them within the bounds
-pub based_after : {X : Type 0} (places : X → List ℕ) (value : X → SetFunction) (size : X → ℤ) (term : X) (q : ℤ) (x y : List ℤ) (u v : ℕ) (a : ℤ) → IsBased places value size term q x → y ≡ exchanged x u v a → All IsEntry (exchanged x u v a) → IsBase (times q (value term)) y
-    → IsBased places value size term q y
+pub based_after : {X : Type 0} (places : X → List ℕ) (value : X → SetFunction) (size : X → ℤ) (term : X) (q : ℤ) (x y : List ℤ) (u v : ℕ) (a : ℤ) → IsPlacedBase places value size term q x → y ≡ exchanged x u v a → All IsEntry (exchanged x u v a) → IsBase (times q (value term)) y
+    → IsPlacedBase places value size term q y
 based_after places value size term q x y u v a b is small base = record {
-  factor = b.factor;
   placed = b.placed;
-  entries = ap length is ∙ (length-exchanged x u v a ∙ b.entries);
-  bounded = b.bounded;
-  small = rw is small;
-  base = base;
+  based = record { factor = b.based.factor; entries = ap length is ∙ (length-exchanged x u v a ∙ b.based.entries); bounded = b.based.bounded; small = rw is small; base = base };
 }

@@ -1,16 +1,12 @@
 -- The rows of a term, and the steps that they tell.
-use Rattle.std.proofs.Common.{◌≡◌, ◌≢◌, ◌⊎◌, ◌↔◌, ℕ, ◌+◌, ◌<◌, Bool, List, length, get_or, set, ℤ, refl, sym, ◌∙◌, arith, inl, inr, get_or-set_same, get_or-set_other, FitsSigned}
+use Rattle.std.proofs.Common.{◌≡◌, ◌≢◌, ◌⊎◌, ◌↔◌, ℕ, ◌+◌, ◌<◌, Bool, List, length, get_or, set, ℤ, refl, sym, ◌∙◌, arith, inl, inr, get_or-set_same, get_or-set_other}
 use Rattle.std.proofs.lemmas.Bool.{cases_eq}
-use Rattle.std.proofs.lemmas.Int.{ints, to_z-of_z}
-use mir.Syntax.{w128}
-use mir.Val.{of_z, to_z}
 use Rattle.sfm_spec.specs.Sets.{AreDistinct}
 use Rattle.sfm_spec.specs.Terms.{SetFunction, times, HasRoom}
 use Rattle.sfm_spec.specs.Families.{Meaning}
 use Rattle.sfm_spec.specs.Walks.{term_at, base_at, IsStep}
 use Rattle.sfm_law.specs.Room.{IsReach}
 use Rattle.sfm_reach.specs.declared.bits.Bits.{Bits}
-use Rattle.sfm_reach.specs.Based.{IsBased}
 use Rattle.sfm_reach.specs.Bits.{bit_in, set_at, blank_bits, HasPlaces}
 use Rattle.sfm_reach.specs.Reach.{IsReachTable, IsRow, AreRowsOf, IsTable}
 
@@ -20,13 +16,6 @@ row_of places f x u row part sized reach has e = (
   (λ one. let (v, lv, hv, is) = (has e).0 one in let r = (reach.exact v (rw sized lv)).0 hv in (v, lv, r.0, r.1, is)),
   (λ (v, lv, ne, room, is). (has e).1 (v, lv, (reach.exact v (rw sized lv)).1 (ne, room), is)),
 )
-
--- also where it was asked at the factor as a word of 128 bits
-pub row_read : {X : Type 0} {places : X → List ℕ} {value : X → SetFunction} {size : X → ℤ} {term : X} {q : ℤ} {x : List ℤ} (u : ℕ) (row : Bits) (part : List Bool) → IsBased places value size term q x
-    → IsReach (times (to_z w128 (of_z w128 q)) (value term)) x u part → HasPlaces (places term) part (length (places term)) row → IsRow (places term) (times q (value term)) x u row
-row_read {q = q} u row part based reach has =
-    let fq : FitsSigned w128 q = omega (arith, ints, based.factor) in
-    row_of _ _ _ u row part based.entries (simp to_z-of_z at reach) has
 
 -- one row more
 pub table_more : (places : List ℕ) (f : SetFunction) (x : List ℤ) (k : ℕ) (table : List Bits) (row : Bits) → IsReachTable places f x k table → k < length table → IsRow places f x k row → IsReachTable places f x (k + 1) (set table k row)

@@ -5,7 +5,7 @@ ghost use Rattle.sfm_reach.specs.{Asked.{AreAllAsked}, Based.{AreBased}, Reach.{
 use crate::kept::ask_kept;
 use crate::reach::{Based, BitRows};
 use sfm_base::{Memory, Rows};
-use sfm_law::Term;
+use sfm_law::{At, Term};
 use std::alloc::Global;
 
 /// Asks all terms for their rows, by the notes that are kept beside their bases, or made now and then kept. After want of memory
@@ -28,7 +28,8 @@ pub fn ask_all<T: Term>(
     for (i, term) in terms.iter().enumerate() {
         let x = bases.row(i);
         let note = &mut notes[i];
-        ask_kept(alloc, &Based { term, q, x }, note, &mut rows[i])?;
+        let base = At { q, x };
+        ask_kept(alloc, &Based { term, base }, note, &mut rows[i])?;
     }
     Ok(())
 }

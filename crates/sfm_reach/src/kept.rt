@@ -2,7 +2,8 @@
 // another graph, makes none for the terms that no walk goes by.
 ghost use Rattle.std.specs.Prelude.{◌≡◌, ◌<◌, ℤ, List, length, IfOk, IfSome, OnOk};
 ghost use Rattle.sfm_spec.specs.Terms.{times};
-ghost use Rattle.sfm_reach.specs.{Based.{IsBased}, Reach.{AreNotes, IsReachTable, IsRow, kept_fits}};
+ghost use Rattle.sfm_law.specs.Based.{IsBased};
+ghost use Rattle.sfm_reach.specs.{Based.{IsPlacedBase}, Reach.{AreNotes, IsReachTable, IsRow, kept_fits}};
 
 use crate::bits::Bits;
 use crate::reach::{Based, BitRows, ask, row_by};
@@ -17,16 +18,18 @@ use std::alloc::Global;
 /// `Memory` where there is none.
 pub fn note_at<T: Term>(
     alloc: Global,
-    at: &Based<'_, T>,
+    at: &Based<'_, '_, T>,
     kept: Option<T::Note>,
 ) -> Result<T::Note, Memory>
-    requires based { IsBased T.places T.value_of T.size_of at.now.term.now at.now.q at.now.x.now }
-    requires kept { IfSome kept (λ note. T.fits at.now.term.now note at.now.q at.now.x.now) }
-    ensures { IfOk result (λ note. T.fits at.now.term.now note at.now.q at.now.x.now) }
+    requires based { IsBased T.places T.value_of T.size_of at.now.term.now at.now.base.q
+        at.now.base.x.now }
+    requires kept { IfSome kept (λ note. T.fits at.now.term.now note at.now.base.q
+        at.now.base.x.now) }
+    ensures { IfOk result (λ note. T.fits at.now.term.now note at.now.base.q at.now.base.x.now) }
 {
     match kept {
         Some(note) => Ok(note),
-        None => at.term.note(alloc, at.q, at.x),
+        None => at.term.note(alloc, &at.base),
     }
 }
 
@@ -38,19 +41,21 @@ pub fn note_at<T: Term>(
 /// `Memory` where there is none.
 pub fn row_kept<T: Term>(
     alloc: Global,
-    at: &Based<'_, T>,
+    at: &Based<'_, '_, T>,
     kept: &mut Option<T::Note>,
     u: usize,
     rows: &mut BitRows,
 ) -> Result<Bits, Memory>
-    requires based { IsBased T.places T.value_of T.size_of at.now.term.now at.now.q at.now.x.now }
-    requires noted { kept_fits T.fits at.now.term.now kept.old at.now.q at.now.x.now }
-    requires from { u < length at.now.x.now }
-    requires rows { length rows.old ≡ length at.now.x.now }
+    requires based { IsPlacedBase T.places T.value_of T.size_of at.now.term.now at.now.base.q
+        at.now.base.x.now }
+    requires noted { kept_fits T.fits at.now.term.now kept.old at.now.base.q at.now.base.x.now }
+    requires from { u < length at.now.base.x.now }
+    requires rows { length rows.old ≡ length at.now.base.x.now }
     ensures same { OnOk result (rows.new ≡ rows.old) }
     ensures row { IfOk result (IsRow (T.places at.now.term.now)
-        (times at.now.q (T.value_of at.now.term.now)) at.now.x.now u) }
-    ensures noted { OnOk result (kept_fits T.fits at.now.term.now kept.new at.now.q at.now.x.now) }
+        (times at.now.base.q (T.value_of at.now.term.now)) at.now.base.x.now u) }
+    ensures noted { OnOk result (kept_fits T.fits at.now.term.now kept.new at.now.base.q
+        at.now.base.x.now) }
 {
     let mut note = note_at(alloc, at, kept.take())?;
     let row = row_by(alloc, at, &mut note, u, rows)?;
@@ -66,18 +71,20 @@ pub fn row_kept<T: Term>(
 /// `Memory` where there is none.
 pub fn ask_kept<T: Term>(
     alloc: Global,
-    at: &Based<'_, T>,
+    at: &Based<'_, '_, T>,
     kept: &mut Option<T::Note>,
     rows: &mut BitRows,
 ) -> Result<(), Memory>
-    requires based { IsBased T.places T.value_of T.size_of at.now.term.now at.now.q at.now.x.now }
-    requires noted { kept_fits T.fits at.now.term.now kept.old at.now.q at.now.x.now }
-    requires rows { length rows.old ≡ length at.now.x.now }
+    requires based { IsPlacedBase T.places T.value_of T.size_of at.now.term.now at.now.base.q
+        at.now.base.x.now }
+    requires noted { kept_fits T.fits at.now.term.now kept.old at.now.base.q at.now.base.x.now }
+    requires rows { length rows.old ≡ length at.now.base.x.now }
     ensures rows { OnOk result (length rows.new ≡ length rows.old) }
     ensures asked { OnOk result (IsReachTable (T.places at.now.term.now)
-        (times at.now.q (T.value_of at.now.term.now)) at.now.x.now
+        (times at.now.base.q (T.value_of at.now.term.now)) at.now.base.x.now
         (length (T.places at.now.term.now)) rows.new) }
-    ensures noted { OnOk result (kept_fits T.fits at.now.term.now kept.new at.now.q at.now.x.now) }
+    ensures noted { OnOk result (kept_fits T.fits at.now.term.now kept.new at.now.base.q
+        at.now.base.x.now) }
 {
     let mut note = note_at(alloc, at, kept.take())?;
     ask(alloc, at, &mut note, rows)?;

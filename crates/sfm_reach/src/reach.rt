@@ -2,21 +2,20 @@
 // Only the terms whose base has changed are asked again.
 ghost use Rattle.std.specs.Prelude.{◌≡◌, ℕ, ◌<◌, List, length, map, IfOk, OnOk, slice_set};
 ghost use Rattle.sfm_spec.specs.{Sets.{IsPlaced}, Rows.{Depends}, Terms.{times}};
-ghost use Rattle.sfm_reach.specs.{Based.{IsBased}, Bits.{HasPlaces, bit_in, set_at}, Image.{IsImage}, Reach.{IsReachTable, IsRow, AreRowsOf, AreSized}};
+ghost use Rattle.sfm_reach.specs.{Based.{IsPlacedBase}, Bits.{HasPlaces, bit_in, set_at}, Image.{IsImage}, Reach.{IsReachTable, IsRow, AreRowsOf, AreSized}};
 
 use crate::bits::{Bits, no_bits, of_words};
 use crate::image::{Image, are_in_order};
 use sfm_base::{Memory, Set};
-use sfm_law::Term;
+use sfm_law::{At, Lead, Term};
 use std::alloc::Global;
 use std::marker::Model;
 
 /// A term, and a base of q times it.
 #[derive(Drop)]
-pub struct Based<'a, T> {
-    pub term: &'a T,
-    pub q: i128,
-    pub x: &'a [i128],
+pub struct Based<'t, 'a, T> {
+    pub term: &'t T,
+    pub base: At<'a>,
 }
 
 /// The rows of one term, seen as a list of sets, with memory for the parts that the term tells.
@@ -141,75 +140,79 @@ pub fn placed_bits(places: &[usize], part: &mut Set) -> Bits
 /// note.
 pub fn row_by<T: Term>(
     alloc: Global,
-    at: &Based<'_, T>,
+    at: &Based<'_, '_, T>,
     note: &mut T::Note,
     u: usize,
     rows: &mut BitRows,
 ) -> Result<Bits, Memory>
-    requires based { IsBased T.places T.value_of T.size_of at.now.term.now at.now.q at.now.x.now }
-    requires noted { T.fits at.now.term.now note.old at.now.q at.now.x.now }
-    requires from { u < length at.now.x.now }
-    requires rows { length rows.old ≡ length at.now.x.now }
+    requires based { IsPlacedBase T.places T.value_of T.size_of at.now.term.now at.now.base.q
+        at.now.base.x.now }
+    requires noted { T.fits at.now.term.now note.old at.now.base.q at.now.base.x.now }
+    requires from { u < length at.now.base.x.now }
+    requires rows { length rows.old ≡ length at.now.base.x.now }
     ensures same { rows.new ≡ rows.old }
     ensures row { IfOk result (IsRow (T.places at.now.term.now)
-        (times at.now.q (T.value_of at.now.term.now)) at.now.x.now u) }
-    ensures noted { OnOk result (T.fits at.now.term.now note.new at.now.q at.now.x.now) }
+        (times at.now.base.q (T.value_of at.now.term.now)) at.now.base.x.now u) }
+    ensures noted { OnOk result (T.fits at.now.term.now note.new at.now.base.q at.now.base.x.now) }
 {
+    let lead = Lead { from: u, onto: u };
     at.term
-        .reach_by(alloc, at.q, at.x, note, u, &mut rows.part)?;
+        .reach_by(alloc, &at.base, note, &lead, &mut rows.part)?;
     Ok(placed_bits(at.term.elements(), &mut rows.part))
 }
 
-/// The row of the place u, which is s or has room to it, beside the parts that were told before it. The note fits the base, and
-/// fits it still; after want of memory nothing is said of it.
+/// The row of the first place of a lead, beside the parts that were told before it. The note fits the base, and fits it still;
+/// after want of memory nothing is said of it.
 pub fn row_beside<T: Term>(
     alloc: Global,
-    at: &Based<'_, T>,
+    at: &Based<'_, '_, T>,
     note: &mut T::Note,
-    s: usize,
-    u: usize,
+    lead: &Lead,
     image: &mut Image,
 ) -> Result<Bits, Memory>
-    requires based { IsBased T.places T.value_of T.size_of at.now.term.now at.now.q at.now.x.now }
-    requires noted { T.fits at.now.term.now note.old at.now.q at.now.x.now }
-    requires onto { s < length at.now.x.now }
-    requires from { u < length at.now.x.now }
-    requires leads { Depends (times at.now.q (T.value_of at.now.term.now)) at.now.x.now u s }
+    requires based { IsPlacedBase T.places T.value_of T.size_of at.now.term.now at.now.base.q
+        at.now.base.x.now }
+    requires noted { T.fits at.now.term.now note.old at.now.base.q at.now.base.x.now }
+    requires from { lead.now.from < length at.now.base.x.now }
+    requires onto { lead.now.onto < length at.now.base.x.now }
+    requires leads { Depends (times at.now.base.q (T.value_of at.now.term.now)) at.now.base.x.now
+        lead.now.from lead.now.onto }
     requires image { IsImage (T.places at.now.term.now) image.old.part image.old.bits
         image.old.in_order }
     ensures image { OnOk result (IsImage (T.places at.now.term.now) image.new.part image.new.bits
         image.new.in_order) }
     ensures row { IfOk result (IsRow (T.places at.now.term.now)
-        (times at.now.q (T.value_of at.now.term.now)) at.now.x.now u) }
-    ensures noted { OnOk result (T.fits at.now.term.now note.new at.now.q at.now.x.now) }
+        (times at.now.base.q (T.value_of at.now.term.now)) at.now.base.x.now lead.now.from) }
+    ensures noted { OnOk result (T.fits at.now.term.now note.new at.now.base.q at.now.base.x.now) }
 {
     at.term
-        .reach_with(alloc, at.q, at.x, note, s, u, &mut image.next)?;
+        .reach_by(alloc, &at.base, note, lead, &mut image.next)?;
     Ok(image.turn(at.term.elements()))
 }
 
 // Asks for the row of the place u, if there is such a place and its row was not asked for.
 fn ask_row<T: Term>(
     alloc: Global,
-    at: &Based<'_, T>,
+    at: &Based<'_, '_, T>,
     note: &mut T::Note,
     u: usize,
     asked: &mut Bits,
     rows: &mut BitRows,
 ) -> Result<(), Memory>
-    requires based { IsBased T.places T.value_of T.size_of at.now.term.now at.now.q at.now.x.now }
-    requires noted { T.fits at.now.term.now note.old at.now.q at.now.x.now }
-    requires rows { length rows.old ≡ length at.now.x.now }
+    requires based { IsPlacedBase T.places T.value_of T.size_of at.now.term.now at.now.base.q
+        at.now.base.x.now }
+    requires noted { T.fits at.now.term.now note.old at.now.base.q at.now.base.x.now }
+    requires rows { length rows.old ≡ length at.now.base.x.now }
     requires known { AreRowsOf (T.places at.now.term.now)
-        (times at.now.q (T.value_of at.now.term.now)) at.now.x.now asked.old rows.old }
+        (times at.now.base.q (T.value_of at.now.term.now)) at.now.base.x.now asked.old rows.old }
     ensures rows { length rows.new ≡ length rows.old }
     ensures known { OnOk result (AreRowsOf (T.places at.now.term.now)
-        (times at.now.q (T.value_of at.now.term.now)) at.now.x.now asked.new rows.new) }
+        (times at.now.base.q (T.value_of at.now.term.now)) at.now.base.x.now asked.new rows.new) }
     ensures kept { (v : ℕ) → bit_in asked.old v ≡ 1 → bit_in asked.new v ≡ 1 }
-    ensures told { OnOk result (u < length at.now.x.now → bit_in asked.new u ≡ 1) }
-    ensures noted { OnOk result (T.fits at.now.term.now note.new at.now.q at.now.x.now) }
+    ensures told { OnOk result (u < length at.now.base.x.now → bit_in asked.new u ≡ 1) }
+    ensures noted { OnOk result (T.fits at.now.term.now note.new at.now.base.q at.now.base.x.now) }
 {
-    if u >= at.x.len() {
+    if u >= at.base.x.len() {
         return Ok(());
     }
     if asked.contains(u) {
@@ -225,18 +228,19 @@ fn ask_row<T: Term>(
 /// it, which fits it still. After want of memory nothing is said of the note.
 pub fn ask<T: Term>(
     alloc: Global,
-    at: &Based<'_, T>,
+    at: &Based<'_, '_, T>,
     note: &mut T::Note,
     rows: &mut BitRows,
 ) -> Result<(), Memory>
-    requires based { IsBased T.places T.value_of T.size_of at.now.term.now at.now.q at.now.x.now }
-    requires noted { T.fits at.now.term.now note.old at.now.q at.now.x.now }
-    requires rows { length rows.old ≡ length at.now.x.now }
+    requires based { IsPlacedBase T.places T.value_of T.size_of at.now.term.now at.now.base.q
+        at.now.base.x.now }
+    requires noted { T.fits at.now.term.now note.old at.now.base.q at.now.base.x.now }
+    requires rows { length rows.old ≡ length at.now.base.x.now }
     ensures rows { length rows.new ≡ length rows.old }
     ensures asked { OnOk result (IsReachTable (T.places at.now.term.now)
-        (times at.now.q (T.value_of at.now.term.now)) at.now.x.now
+        (times at.now.base.q (T.value_of at.now.term.now)) at.now.base.x.now
         (length (T.places at.now.term.now)) rows.new) }
-    ensures noted { OnOk result (T.fits at.now.term.now note.new at.now.q at.now.x.now) }
+    ensures noted { OnOk result (T.fits at.now.term.now note.new at.now.base.q at.now.base.x.now) }
 {
     let mut asked = no_bits();
     if let Some(order) = at.term.order() {
@@ -244,7 +248,7 @@ pub fn ask<T: Term>(
             ask_row(alloc, at, note, *first, &mut asked, rows)?;
         }
     }
-    for u in 0..at.x.len() {
+    for u in 0..at.base.x.len() {
         ask_row(alloc, at, note, u, &mut asked, rows)?;
     }
     Ok(())

@@ -1,14 +1,11 @@
 // One type for the terms of two sums of which the one is turned round. Each call of a term passes on to the kind or to the kind turned
 // round, and each member and law of a term goes by these two cases (specs/Sides.antt).
-ghost use Rattle.std.specs.{Prelude.{◌≡◌, ◌≢◌, ◌↔◌, ◌<◌, ◌^◌, Bool, List, length, ℤ, pos, neg_ℤ, ◌*ℤ◌, ◌≤ℤ◌, IfOk, OnOk, IsOk, IsTrue, Some}, List.{All}};
-ghost use Rattle.sfm_spec.specs.{Bounds.{IsEntry, IsFactor}, Terms.{SetFunction, times, IsBase, IsFamily, IsSubmodular, exchanged}};
-ghost use Rattle.sfm_law.specs.Room.{IsRoom, IsReach, IsWithinRoom};
 ghost use Rattle.sfm_sides.specs.Sides.{side_places, side_value, side_size, side_start, side_lean_value, side_lean_calls, side_fits, side-family, side-submodular, side-bounded, side-starts, side-starts_small};
 
 use sfm_base::{Memory, Set};
 use sfm_flip::{Flip, FlipNote};
 use sfm_kind::{Kind, KindNote};
-use sfm_law::{Room, Term};
+use sfm_law::{At, Lead, Room, Swap, Term};
 use std::alloc::Global;
 
 /// A term of the left sum as it is, or one of the right sum turned round.
@@ -133,75 +130,50 @@ impl Term for Side {
         by_side!(self, term => term.is_base(alloc, q, x))
     }
 
-    fn room(&self, alloc: Global, q: i128, x: &[i128], u: usize, v: usize) -> Result<Room, Memory> {
-        by_side!(self, term => term.room(alloc, q, x, u, v))
+    fn room(&self, alloc: Global, at: &At<'_>, u: usize, v: usize) -> Result<Room, Memory> {
+        by_side!(self, term => term.room(alloc, at, u, v))
     }
 
-    fn reach(
-        &self,
-        alloc: Global,
-        q: i128,
-        x: &[i128],
-        u: usize,
-        to: &mut Set,
-    ) -> Result<(), Memory> {
-        by_side!(self, term => term.reach(alloc, q, x, u, to))
+    fn reach(&self, alloc: Global, at: &At<'_>, u: usize, to: &mut Set) -> Result<(), Memory> {
+        by_side!(self, term => term.reach(alloc, at, u, to))
     }
 
-    fn note(&self, alloc: Global, q: i128, x: &[i128]) -> Result<SideNote, Memory> {
+    fn note(&self, alloc: Global, at: &At<'_>) -> Result<SideNote, Memory> {
         match self {
-            Side::Left(term) => Ok(SideNote::Left(term.note(alloc, q, x)?)),
-            Side::Right(term) => Ok(SideNote::Right(term.note(alloc, q, x)?)),
+            Side::Left(term) => Ok(SideNote::Left(term.note(alloc, at)?)),
+            Side::Right(term) => Ok(SideNote::Right(term.note(alloc, at)?)),
         }
     }
 
     fn reach_by(
         &self,
         alloc: Global,
-        q: i128,
-        x: &[i128],
+        at: &At<'_>,
         note: &mut SideNote,
-        u: usize,
+        lead: &Lead,
         to: &mut Set,
     ) -> Result<(), Memory> {
-        by_note!(self, note, term => term.reach_by(alloc, q, x, note, u, to))
+        by_note!(self, note, term => term.reach_by(alloc, at, note, lead, to))
     }
 
     fn room_by(
         &self,
         alloc: Global,
-        q: i128,
-        x: &[i128],
+        at: &At<'_>,
         note: &mut SideNote,
         u: usize,
         v: usize,
     ) -> Result<Room, Memory> {
-        by_note!(self, note, term => term.room_by(alloc, q, x, note, u, v))
-    }
-
-    fn reach_with(
-        &self,
-        alloc: Global,
-        q: i128,
-        x: &[i128],
-        note: &mut SideNote,
-        s: usize,
-        u: usize,
-        to: &mut Set,
-    ) -> Result<(), Memory> {
-        by_note!(self, note, term => term.reach_with(alloc, q, x, note, s, u, to))
+        by_note!(self, note, term => term.room_by(alloc, at, note, u, v))
     }
 
     fn moved(
         &self,
         alloc: Global,
-        q: i128,
-        x: &[i128],
+        at: &At<'_>,
         note: &mut SideNote,
-        u: usize,
-        v: usize,
-        a: i128,
+        swap: &Swap,
     ) -> Result<(), Memory> {
-        by_note!(self, note, term => term.moved(alloc, q, x, note, u, v, a))
+        by_note!(self, note, term => term.moved(alloc, at, note, swap))
     }
 }

@@ -3,16 +3,16 @@
 // the rooms that the term tells without it. Each is tried by a function that answers yes or no, and no where memory lacks.
 ghost use Rattle.std.specs.{Prelude.{◌≡◌, ◌≢◌, ◌↔◌, ◌<◌, ◌*◌, ◌^◌, ◌≤ℤ◌, length, pos, IsTrue, IfOk, IfSome}, List.{All}};
 ghost use Rattle.sfm_spec.specs.{Bounds.{IsEntry, IsFactor}, Terms.{times}};
-ghost use Rattle.sfm_law.specs.Room.{IsWithinRoom};
+ghost use Rattle.sfm_law.specs.Based.{IsBased, IsPair, CanSwap};
 ghost use Rattle.sfm_kind.specs.Kinds.{kind_size};
-ghost use Rattle.sfm_sides_tests.specs.Based.{IsFit, IsBased};
+ghost use Rattle.sfm_sides_tests.specs.Fit.{IsFit};
 
 use sfm_base::{Memory, Set};
 use sfm_concave::{Concave, Uniform};
 use sfm_flip::Flip;
 use sfm_kind::Kind;
 use sfm_laminar::{Groups, Laminar};
-use sfm_law::{Room, Term, exchange};
+use sfm_law::{At, Lead, Room, Swap, Term, exchange};
 use sfm_matroid::{Entries, Graphic, Transversal};
 use sfm_sides::Side;
 use sfm_simple::{Cover, Cut, Need, Table, Weight};
@@ -107,78 +107,59 @@ fn is_same(s: &Set, other: &Set) -> bool {
 }
 
 /// The part to which a place has room at a base, if memory is there.
-fn reach_of<T: Term>(alloc: Global, term: &T, q: i128, x: &[i128], u: usize) -> Option<Set>
-    requires based { IsBased T.places T.value_of T.size_of term.now q x.now }
-    requires from { u < length x.now }
+fn reach_of<T: Term>(alloc: Global, term: &T, at: &At<'_>, u: usize) -> Option<Set>
+    requires based { IsBased T.places T.value_of T.size_of term.now at.now.q at.now.x.now }
+    requires from { u < length at.now.x.now }
 {
-    let Ok(mut to) = Set::whole(alloc, x.len()) else {
+    let Ok(mut to) = Set::whole(alloc, at.x.len()) else {
         return None;
     };
-    match term.reach(alloc, q, x, u, &mut to) {
+    match term.reach(alloc, at, u, &mut to) {
         Ok(()) => Some(to),
         Err(_) => None,
     }
 }
 
 /// Whether the part to which a place has room at a base is that one.
-fn is_reach<T: Term>(alloc: Global, term: &T, q: i128, x: &[i128], u: usize, wanted: &Set) -> bool
-    requires based { IsBased T.places T.value_of T.size_of term.now q x.now }
-    requires from { u < length x.now }
+fn is_reach<T: Term>(alloc: Global, term: &T, at: &At<'_>, u: usize, wanted: &Set) -> bool
+    requires based { IsBased T.places T.value_of T.size_of term.now at.now.q at.now.x.now }
+    requires from { u < length at.now.x.now }
 {
-    match reach_of(alloc, term, q, x, u) {
+    match reach_of(alloc, term, at, u) {
         Some(to) => is_same(&to, wanted),
         None => false,
     }
 }
 
-/// Whether a note tells the row of u at a base, by both of its calls.
-fn tells_row<T: Term>(
-    alloc: Global,
-    term: &T,
-    q: i128,
-    x: &[i128],
-    note: &mut T::Note,
-    u: usize,
-) -> bool
-    requires based { IsBased T.places T.value_of T.size_of term.now q x.now }
-    requires noted { T.fits term.now note.old q x.now }
-    requires from { u < length x.now }
-    ensures noted { IsTrue result → T.fits term.now note.new q x.now }
+/// Whether a note tells the row of u at a base.
+fn tells_row<T: Term>(alloc: Global, term: &T, at: &At<'_>, note: &mut T::Note, u: usize) -> bool
+    requires based { IsBased T.places T.value_of T.size_of term.now at.now.q at.now.x.now }
+    requires noted { T.fits term.now note.old at.now.q at.now.x.now }
+    requires from { u < length at.now.x.now }
+    ensures noted { IsTrue result → T.fits term.now note.new at.now.q at.now.x.now }
 {
-    let Ok(mut to) = Set::whole(alloc, x.len()) else {
+    let Ok(mut to) = Set::whole(alloc, at.x.len()) else {
         return false;
     };
-    let Ok(()) = term.reach_by(alloc, q, x, note, u, &mut to) else {
+    let lead = Lead { from: u, onto: u };
+    let Ok(()) = term.reach_by(alloc, at, note, &lead, &mut to) else {
         return false;
     };
-    if !is_reach(alloc, term, q, x, u, &to) {
-        return false;
-    }
-    let Ok(()) = term.reach_with(alloc, q, x, note, u, u, &mut to) else {
-        return false;
-    };
-    is_reach(alloc, term, q, x, u, &to)
+    is_reach(alloc, term, at, u, &to)
 }
 
 /// Whether a note tells each row at a base.
-fn tells_rows<T: Term>(alloc: Global, term: &T, q: i128, x: &[i128], note: &mut T::Note) -> bool
-    requires based { IsBased T.places T.value_of T.size_of term.now q x.now }
-    requires noted { T.fits term.now note.old q x.now }
-    ensures noted { IsTrue result → T.fits term.now note.new q x.now }
+fn tells_rows<T: Term>(alloc: Global, term: &T, at: &At<'_>, note: &mut T::Note) -> bool
+    requires based { IsBased T.places T.value_of T.size_of term.now at.now.q at.now.x.now }
+    requires noted { T.fits term.now note.old at.now.q at.now.x.now }
+    ensures noted { IsTrue result → T.fits term.now note.new at.now.q at.now.x.now }
 {
-    for u in 0..x.len() {
-        if !tells_row(alloc, term, q, x, note, u) {
+    for u in 0..at.x.len() {
+        if !tells_row(alloc, term, at, note, u) {
             return false;
         }
     }
     true
-}
-
-/// A place that is raised and one that is lowered.
-#[derive(Clone, Copy)]
-struct Pair {
-    u: usize,
-    v: usize,
 }
 
 /// Exchanges an amount between two places of a base, and brings a note up to that.
@@ -188,24 +169,27 @@ fn exchange_by<T: Term>(
     q: i128,
     x: &mut Vec<i128>,
     note: &mut T::Note,
-    pair: Pair,
-    a: i128,
+    swap: &Swap,
 ) -> bool
     requires based { IsBased T.places T.value_of T.size_of term.now q x.old.items }
     requires noted { T.fits term.now note.old q x.old.items }
-    requires apart { pair.u ≢ pair.v }
-    requires from { pair.u < length x.old.items }
-    requires onto { pair.v < length x.old.items }
-    requires low { pos 0 ≤ℤ a }
-    requires high { a ≤ℤ pos (10 ^ 30) }
-    requires room { IsWithinRoom (times q (T.value_of term.now)) x.old.items pair.u pair.v a }
+    requires can { CanSwap (times q (T.value_of term.now)) x.old.items swap.now.u swap.now.v
+        swap.now.a }
     ensures count { length x.new.items ≡ length x.old.items }
     ensures based { IsTrue result → IsBased T.places T.value_of T.size_of term.now q x.new.items }
     ensures noted { IsTrue result → T.fits term.now note.new q x.new.items }
 {
-    let moved = term.moved(alloc, q, x, note, pair.u, pair.v, a).is_ok();
-    exchange(term, q, x, pair.u, pair.v, a);
+    let at = At { q, x: x.as_slice() };
+    let moved = term.moved(alloc, &at, note, swap).is_ok();
+    exchange(term, q, x, swap.u, swap.v, swap.a);
     moved && is_base(alloc, term, q, x)
+}
+
+/// A place that is raised and one that is lowered.
+#[derive(Clone, Copy)]
+struct Pair {
+    u: usize,
+    v: usize,
 }
 
 /// Exchanges as much as can be between two places of a base, where there is a bound, and brings a note up to that, which is to tell
@@ -220,22 +204,26 @@ fn step<T: Term>(
 ) -> bool
     requires based { IsBased T.places T.value_of T.size_of term.now q x.old.items }
     requires noted { T.fits term.now note.old q x.old.items }
-    requires apart { pair.u ≢ pair.v }
-    requires from { pair.u < length x.old.items }
-    requires onto { pair.v < length x.old.items }
+    requires pair { IsPair pair.u pair.v x.old.items }
     ensures count { length x.new.items ≡ length x.old.items }
     ensures based { IsTrue result → IsBased T.places T.value_of T.size_of term.now q x.new.items }
     ensures noted { IsTrue result → T.fits term.now note.new q x.new.items }
 {
-    let Ok(told) = term.room_by(alloc, q, x, note, pair.u, pair.v) else {
+    let at = At { q, x: x.as_slice() };
+    let Ok(told) = term.room_by(alloc, &at, note, pair.u, pair.v) else {
         return false;
     };
-    match term.room(alloc, q, x, pair.u, pair.v) {
+    match term.room(alloc, &at, pair.u, pair.v) {
         Ok(Room::Upto(a)) => {
+            let swap = Swap {
+                u: pair.u,
+                v: pair.v,
+                a,
+            };
             told == Room::Upto(a)
                 && 0 <= a
                 && a <= MOST_ENTRY
-                && exchange_by(alloc, term, q, x, note, pair, a)
+                && exchange_by(alloc, term, q, x, note, &swap)
         }
         Ok(Room::Unbounded) => told == Room::Unbounded,
         Err(_) => false,
@@ -259,7 +247,14 @@ fn tells_step<T: Term>(
     ensures based { IsTrue result → IsBased T.places T.value_of T.size_of term.now q x.new.items }
     ensures noted { IsTrue result → T.fits term.now note.new q x.new.items }
 {
-    pair.u == pair.v || step(alloc, term, q, x, note, pair) && tells_rows(alloc, term, q, x, note)
+    if pair.u == pair.v {
+        return true;
+    }
+    if !step(alloc, term, q, x, note, pair) {
+        return false;
+    }
+    let at = At { q, x: x.as_slice() };
+    tells_rows(alloc, term, &at, note)
 }
 
 /// Whether a note tells what it is to tell after exchanges between one place and each other one in turn.
@@ -290,7 +285,8 @@ fn tells_steps<T: Term>(
 fn tells_from<T: Term>(alloc: Global, term: &T, q: i128, x: &mut Vec<i128>) -> bool
     requires { IsBased T.places T.value_of T.size_of term.now q x.old.items }
 {
-    let Ok(mut note) = term.note(alloc, q, x) else {
+    let at = At { q, x: x.as_slice() };
+    let Ok(mut note) = term.note(alloc, &at) else {
         return false;
     };
     for u in 0..x.len() {
@@ -398,21 +394,21 @@ const ROOMS: [Told; 3] = [
 ];
 
 /// Whether the room of two places of a base is that.
-fn has_room<T: Term>(alloc: Global, term: &T, x: &[i128], told: Told) -> bool
-    requires { IsBased T.places T.value_of T.size_of term.now (pos 1) x.now }
+fn has_room<T: Term>(alloc: Global, term: &T, at: &At<'_>, told: Told) -> bool
+    requires { IsBased T.places T.value_of T.size_of term.now at.now.q at.now.x.now }
 {
-    if told.u == told.v || told.u >= x.len() || told.v >= x.len() {
+    if told.u == told.v || told.u >= at.x.len() || told.v >= at.x.len() {
         return false;
     }
-    term.room(alloc, 1, x, told.u, told.v) == Ok(Room::Upto(told.a))
+    term.room(alloc, at, told.u, told.v) == Ok(Room::Upto(told.a))
 }
 
 /// Whether the rooms between places of a base are those.
-fn has_rooms<T: Term>(alloc: Global, term: &T, x: &[i128], rooms: &[Told]) -> bool
-    requires { IsBased T.places T.value_of T.size_of term.now (pos 1) x.now }
+fn has_rooms<T: Term>(alloc: Global, term: &T, at: &At<'_>, rooms: &[Told]) -> bool
+    requires { IsBased T.places T.value_of T.size_of term.now at.now.q at.now.x.now }
 {
     for told in rooms {
-        if !has_room(alloc, term, x, *told) {
+        if !has_room(alloc, term, at, *told) {
             return false;
         }
     }
@@ -421,10 +417,11 @@ fn has_rooms<T: Term>(alloc: Global, term: &T, x: &[i128], rooms: &[Told]) -> bo
 
 /// Whether a term has those rooms at what is to be a base of it, and there room from the first place to the other two.
 fn answers<T: Term>(alloc: Global, term: &T, x: &[i128], rooms: &[Told]) -> bool {
-    if x.len() != 3 || !is_base(alloc, term, 1, x) || !has_rooms(alloc, term, x, rooms) {
+    let at = At { q: 1, x };
+    if x.len() != 3 || !is_base(alloc, term, 1, x) || !has_rooms(alloc, term, &at, rooms) {
         return false;
     }
-    let Some(to) = reach_of(alloc, term, 1, x, 0) else {
+    let Some(to) = reach_of(alloc, term, &at, 0) else {
         return false;
     };
     to.len() == 3 && !to.contains(0) && to.contains(1) && to.contains(2)

@@ -15,12 +15,12 @@
 // A row costs no proof, since the functions that read and try it are proved for every table. They answer yes or no.
 use crate::numbers::numbers_of;
 use crate::trial::{
-    At, has_places, has_reach, has_room, has_size, has_values, is_base, is_no_base, part, starts,
+    has_places, has_reach, has_room, has_size, has_values, is_base, is_no_base, part, starts,
 };
 use crate::{concave, graphs, laminar, simple, slots};
 use sfm_base::Set;
 use sfm_kind::Kind;
-use sfm_law::Term;
+use sfm_law::{At, Term};
 use sfm_text::read_pieces;
 use std::alloc::Global;
 use std::process::Abort;
@@ -126,15 +126,15 @@ fn word_of(text: &str) -> Option<Word> {
 }
 
 /// Whether a term answers at a factor and a vector what a word and numbers tell.
-fn is_told_at(alloc: Global, kind: &Kind, at: At, word: Word, numbers: &[i128]) -> bool {
+fn is_told_at(alloc: Global, kind: &Kind, at: &At<'_>, word: Word, numbers: &[i128]) -> bool {
     let beside = At {
         q: at.q,
         x: numbers,
     };
     match word {
-        Word::Start => starts(alloc, kind, beside),
-        Word::Not => is_no_base(alloc, kind, beside),
-        Word::Base => is_base(alloc, kind, beside),
+        Word::Start => starts(alloc, kind, &beside),
+        Word::Not => is_no_base(alloc, kind, &beside),
+        Word::Base => is_base(alloc, kind, &beside),
         Word::Room => has_room(alloc, kind, at, numbers),
         Word::Reach => has_reach(alloc, kind, at, numbers),
         _ => true,
@@ -142,7 +142,7 @@ fn is_told_at(alloc: Global, kind: &Kind, at: At, word: Word, numbers: &[i128]) 
 }
 
 /// Whether a term answers what a word and numbers tell.
-fn is_told(alloc: Global, kind: &Kind, at: At, word: Word, numbers: &[i128]) -> bool {
+fn is_told(alloc: Global, kind: &Kind, at: &At<'_>, word: Word, numbers: &[i128]) -> bool {
     match word {
         Word::Places => has_places(kind, numbers),
         Word::Size => has_size(kind, numbers),
@@ -178,7 +178,7 @@ fn has_numbers(
         q: told.q,
         x: told.x.as_slice(),
     };
-    let is_so = is_told(alloc, kind, at, word, numbers.as_slice());
+    let is_so = is_told(alloc, kind, &at, word, numbers.as_slice());
     keep(told, word, numbers);
     is_so
 }

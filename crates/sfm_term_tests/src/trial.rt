@@ -3,33 +3,17 @@
 // are told by their numbers, place j counting 2^j.
 ghost use Rattle.std.specs.{Prelude.{◌≡◌, ◌↔◌, ◌<◌, ◌^◌, ◌≤ℤ◌, length, pos, IsTrue, IfOk, IfSome}, List.{All}};
 ghost use Rattle.sfm_spec.specs.{Bounds.{IsEntry, IsFactor}, Terms.{times, exchanged}};
-ghost use Rattle.sfm_law.specs.Room.{IsWithinRoom};
-ghost use Rattle.sfm_term_tests.specs.Based.{IsFit, IsBased, IsPair};
+ghost use Rattle.sfm_law.specs.Based.{IsBased, IsPair, CanSwap};
+ghost use Rattle.sfm_term_tests.specs.Fit.{IsFit};
 
 use crate::numbers::{NO, count_at};
 use sfm_base::{Memory, Set};
-use sfm_law::{Room, Term, exchange};
+use sfm_law::{At, Lead, Room, Swap, Term, exchange};
 use std::alloc::Global;
 
 const MOST_ENTRY: i128 = 1_000_000_000_000_000_000_000_000_000_000;
 
 const MOST_SIZE: i128 = 1_000_000_000_000_000_000;
-
-/// A factor q, and a vector beside q times a term.
-#[derive(Clone, Copy)]
-pub(crate) struct At<'a> {
-    pub q: i128,
-    pub x: &'a [i128],
-}
-
-/// Two places at a base of q times a term.
-#[derive(Clone, Copy)]
-pub(crate) struct Pair<'a> {
-    pub q: i128,
-    pub x: &'a [i128],
-    pub u: usize,
-    pub v: usize,
-}
 
 /// Whether each number is a possible entry of a base.
 fn are_entries(x: &[i128]) -> bool
@@ -111,8 +95,8 @@ pub(crate) fn has_values<T: Term>(alloc: Global, term: &T, values: &[i128]) -> b
 }
 
 /// Whether the first base of q times a term is that one.
-fn is_start<T: Term>(alloc: Global, term: &T, at: At) -> bool
-    requires factor { IsFactor at.q }
+fn is_start<T: Term>(alloc: Global, term: &T, at: &At<'_>) -> bool
+    requires factor { IsFactor at.now.q }
     requires bounded { T.size_of term.now ≤ℤ pos (10 ^ 18) }
 {
     let Ok(mut x) = vec![in alloc; 1; term.elements().len()] else {
@@ -123,7 +107,7 @@ fn is_start<T: Term>(alloc: Global, term: &T, at: At) -> bool
 }
 
 /// Whether the first base of q times a term can be asked for, and is that one.
-pub(crate) fn starts<T: Term>(alloc: Global, term: &T, at: At) -> bool {
+pub(crate) fn starts<T: Term>(alloc: Global, term: &T, at: &At<'_>) -> bool {
     is_factor(at.q) && is_small(term) && is_start(alloc, term, at)
 }
 
@@ -135,9 +119,9 @@ fn fits<T: Term>(term: &T, q: i128, x: &[i128]) -> bool
 }
 
 /// What a term tells of a vector: whether it is a base of q times the term, with all numbers within the bounds.
-fn tells_base<T: Term>(alloc: Global, term: &T, at: At) -> Result<bool, Memory>
-    ensures { IfOk result (λ r. IsTrue r → IsBased T.places T.value_of T.size_of term.now at.entry.q
-        at.entry.x.now) }
+fn tells_base<T: Term>(alloc: Global, term: &T, at: &At<'_>) -> Result<bool, Memory>
+    ensures { IfOk result (λ r. IsTrue r → IsBased T.places T.value_of T.size_of term.now at.now.q
+        at.now.x.now) }
 {
     if fits(term, at.q, at.x) {
         term.is_base(alloc, at.q, at.x)
@@ -147,9 +131,9 @@ fn tells_base<T: Term>(alloc: Global, term: &T, at: At) -> Result<bool, Memory>
 }
 
 /// Whether a vector is a base of q times a term.
-pub(crate) fn is_base<T: Term>(alloc: Global, term: &T, at: At) -> bool
-    ensures { IsTrue result → IsBased T.places T.value_of T.size_of term.now at.entry.q
-        at.entry.x.now }
+pub(crate) fn is_base<T: Term>(alloc: Global, term: &T, at: &At<'_>) -> bool
+    ensures { IsTrue result → IsBased T.places T.value_of T.size_of term.now at.now.q
+        at.now.x.now }
 {
     match tells_base(alloc, term, at) {
         Ok(found) => found,
@@ -158,7 +142,7 @@ pub(crate) fn is_base<T: Term>(alloc: Global, term: &T, at: At) -> bool
 }
 
 /// Whether bases of q times a term can be asked for, and a vector is none.
-pub(crate) fn is_no_base<T: Term>(alloc: Global, term: &T, at: At) -> bool {
+pub(crate) fn is_no_base<T: Term>(alloc: Global, term: &T, at: &At<'_>) -> bool {
     match tells_base(alloc, term, at) {
         Ok(found) => !found && fits(term, at.q, at.x),
         Err(_) => false,
@@ -171,131 +155,140 @@ fn is_same(s: &Set, other: &Set) -> bool {
 }
 
 /// Whether the part to which a place has room at a base is that one.
-fn is_reach<T: Term>(alloc: Global, term: &T, at: Pair, wanted: &Set) -> bool
-    requires based { IsBased T.places T.value_of T.size_of term.now at.q at.x.now }
-    requires from { at.u < length at.x.now }
+fn is_reach<T: Term>(alloc: Global, term: &T, at: &At<'_>, u: usize, wanted: &Set) -> bool
+    requires based { IsBased T.places T.value_of T.size_of term.now at.now.q at.now.x.now }
+    requires from { u < length at.now.x.now }
 {
     let Ok(mut to) = part(alloc, at.x.len(), 5) else {
         return false;
     };
-    let reached = term.reach(alloc, at.q, at.x, at.u, &mut to).is_ok();
+    let reached = term.reach(alloc, at, u, &mut to).is_ok();
     reached && is_same(&to, wanted)
 }
 
 /// Whether a note tells the row of u at a base.
-fn tells_reach<T: Term>(alloc: Global, term: &T, at: Pair, note: &mut T::Note) -> bool
-    requires based { IsBased T.places T.value_of T.size_of term.now at.q at.x.now }
-    requires noted { T.fits term.now note.old at.q at.x.now }
-    requires from { at.u < length at.x.now }
-    ensures noted { IsTrue result → T.fits term.now note.new at.entry.q at.entry.x.now }
+fn tells_reach<T: Term>(alloc: Global, term: &T, at: &At<'_>, note: &mut T::Note, u: usize) -> bool
+    requires based { IsBased T.places T.value_of T.size_of term.now at.now.q at.now.x.now }
+    requires noted { T.fits term.now note.old at.now.q at.now.x.now }
+    requires from { u < length at.now.x.now }
+    ensures noted { IsTrue result → T.fits term.now note.new at.now.q at.now.x.now }
 {
     let Ok(mut to) = part(alloc, at.x.len(), 6) else {
         return false;
     };
-    let Ok(()) = term.reach_by(alloc, at.q, at.x, note, at.u, &mut to) else {
+    let lead = Lead { from: u, onto: u };
+    let Ok(()) = term.reach_by(alloc, at, note, &lead, &mut to) else {
         return false;
     };
-    is_reach(alloc, term, at, &to)
+    is_reach(alloc, term, at, u, &to)
 }
 
 /// Whether a note tells the room of (u, v) at a base.
-fn tells_room<T: Term>(alloc: Global, term: &T, at: Pair, note: &mut T::Note) -> bool
-    requires based { IsBased T.places T.value_of T.size_of term.now at.q at.x.now }
-    requires noted { T.fits term.now note.old at.q at.x.now }
-    requires pair { IsPair at.u at.v at.x.now }
+fn tells_room<T: Term>(
+    alloc: Global,
+    term: &T,
+    at: &At<'_>,
+    note: &mut T::Note,
+    u: usize,
+    v: usize,
+) -> bool
+    requires based { IsBased T.places T.value_of T.size_of term.now at.now.q at.now.x.now }
+    requires noted { T.fits term.now note.old at.now.q at.now.x.now }
+    requires pair { IsPair u v at.now.x.now }
 {
-    let told = term.room_by(alloc, at.q, at.x, note, at.u, at.v);
-    told.is_ok() && told == term.room(alloc, at.q, at.x, at.u, at.v)
+    let told = term.room_by(alloc, at, note, u, v);
+    told.is_ok() && told == term.room(alloc, at, u, v)
 }
 
 /// Whether a note tells the row of u and the room of (u, v) at a base.
-fn tells<T: Term>(alloc: Global, term: &T, at: Pair, note: &mut T::Note) -> bool
-    requires based { IsBased T.places T.value_of T.size_of term.now at.q at.x.now }
-    requires noted { T.fits term.now note.old at.q at.x.now }
-    requires pair { IsPair at.u at.v at.x.now }
+fn tells<T: Term>(
+    alloc: Global,
+    term: &T,
+    at: &At<'_>,
+    note: &mut T::Note,
+    u: usize,
+    v: usize,
+) -> bool
+    requires based { IsBased T.places T.value_of T.size_of term.now at.now.q at.now.x.now }
+    requires noted { T.fits term.now note.old at.now.q at.now.x.now }
+    requires pair { IsPair u v at.now.x.now }
 {
-    tells_reach(alloc, term, at, note) && tells_room(alloc, term, at, note)
+    tells_reach(alloc, term, at, note, u) && tells_room(alloc, term, at, note, u, v)
 }
 
 /// Whether a new note tells the row of u and the room of (u, v) at a base.
-fn tells_at<T: Term>(alloc: Global, term: &T, at: Pair) -> bool
-    requires based { IsBased T.places T.value_of T.size_of term.now at.q at.x.now }
-    requires pair { IsPair at.u at.v at.x.now }
+fn tells_at<T: Term>(alloc: Global, term: &T, at: &At<'_>, u: usize, v: usize) -> bool
+    requires based { IsBased T.places T.value_of T.size_of term.now at.now.q at.now.x.now }
+    requires pair { IsPair u v at.now.x.now }
 {
-    match term.note(alloc, at.q, at.x) {
-        Ok(mut note) => tells(alloc, term, at, &mut note),
+    match term.note(alloc, at) {
+        Ok(mut note) => tells(alloc, term, at, &mut note, u, v),
         Err(_) => false,
     }
 }
 
 /// A new note that was brought up to an exchange.
-fn note_behind<T: Term>(alloc: Global, term: &T, at: Pair, a: i128) -> Result<T::Note, Memory>
-    requires based { IsBased T.places T.value_of T.size_of term.now at.q at.x.now }
-    requires pair { IsPair at.u at.v at.x.now }
-    requires low { pos 0 ≤ℤ a }
-    requires high { a ≤ℤ pos (10 ^ 30) }
-    requires room { IsWithinRoom (times at.q (T.value_of term.now)) at.x.now at.u at.v a }
-    ensures { IfOk result (λ note. T.fits term.now note at.entry.q
-        (exchanged at.entry.x.now at.entry.u at.entry.v a)) }
+fn note_behind<T: Term>(
+    alloc: Global,
+    term: &T,
+    at: &At<'_>,
+    swap: &Swap,
+) -> Result<T::Note, Memory>
+    requires based { IsBased T.places T.value_of T.size_of term.now at.now.q at.now.x.now }
+    requires can { CanSwap (times at.now.q (T.value_of term.now)) at.now.x.now swap.now.u swap.now.v
+        swap.now.a }
+    ensures { IfOk result (λ note. T.fits term.now note at.now.q
+        (exchanged at.now.x.now swap.now.u swap.now.v swap.now.a)) }
 {
-    let mut note = term.note(alloc, at.q, at.x)?;
-    term.moved(alloc, at.q, at.x, &mut note, at.u, at.v, a)?;
+    let mut note = term.note(alloc, at)?;
+    term.moved(alloc, at, &mut note, swap)?;
     Ok(note)
 }
 
 /// The base that an exchange makes of another.
-fn behind<T: Term>(alloc: Global, term: &T, at: Pair, a: i128) -> Result<Vec<i128>, Memory>
-    requires based { IsBased T.places T.value_of T.size_of term.now at.q at.x.now }
-    requires pair { IsPair at.u at.v at.x.now }
-    requires low { pos 0 ≤ℤ a }
-    requires high { a ≤ℤ pos (10 ^ 30) }
-    requires room { IsWithinRoom (times at.q (T.value_of term.now)) at.x.now at.u at.v a }
-    ensures { IfOk result (λ y. y.items ≡ exchanged at.entry.x.now at.entry.u at.entry.v a) }
+fn behind<T: Term>(alloc: Global, term: &T, at: &At<'_>, swap: &Swap) -> Result<Vec<i128>, Memory>
+    requires based { IsBased T.places T.value_of T.size_of term.now at.now.q at.now.x.now }
+    requires can { CanSwap (times at.now.q (T.value_of term.now)) at.now.x.now swap.now.u swap.now.v
+        swap.now.a }
+    ensures { IfOk result (λ y. y.items
+        ≡ exchanged at.now.x.now swap.now.u swap.now.v swap.now.a) }
 {
     let mut y = Vec::from_slice(alloc, at.x)?;
-    exchange(term, at.q, &mut y, at.u, at.v, a);
+    exchange(term, at.q, &mut y, swap.u, swap.v, swap.a);
     Ok(y)
 }
 
 /// Whether a note tells what it is to tell at the base that an exchange makes of another.
-fn tells_behind<T: Term>(alloc: Global, term: &T, at: Pair, a: i128) -> bool
-    requires based { IsBased T.places T.value_of T.size_of term.now at.q at.x.now }
-    requires pair { IsPair at.u at.v at.x.now }
-    requires low { pos 0 ≤ℤ a }
-    requires high { a ≤ℤ pos (10 ^ 30) }
-    requires room { IsWithinRoom (times at.q (T.value_of term.now)) at.x.now at.u at.v a }
+fn tells_behind<T: Term>(alloc: Global, term: &T, at: &At<'_>, swap: &Swap) -> bool
+    requires based { IsBased T.places T.value_of T.size_of term.now at.now.q at.now.x.now }
+    requires can { CanSwap (times at.now.q (T.value_of term.now)) at.now.x.now swap.now.u swap.now.v
+        swap.now.a }
 {
-    let Ok(y) = behind(alloc, term, at, a) else {
+    let Ok(y) = behind(alloc, term, at, swap) else {
         return false;
     };
-    let Ok(mut note) = note_behind(alloc, term, at, a) else {
+    let Ok(mut note) = note_behind(alloc, term, at, swap) else {
         return false;
     };
     let moved = At {
         q: at.q,
         x: y.as_slice(),
     };
-    if !is_base(alloc, term, moved) {
-        return false;
-    }
-    let back = Pair {
-        q: at.q,
-        x: y.as_slice(),
-        u: at.v,
-        v: at.u,
-    };
-    tells(alloc, term, back, &mut note)
+    is_base(alloc, term, &moved) && tells(alloc, term, &moved, &mut note, swap.v, swap.u)
 }
 
 /// Whether the room of two places at a base is of that number, and notes tell the same after as much as can be is exchanged between
 /// them.
-fn is_room<T: Term>(alloc: Global, term: &T, at: Pair, number: i128) -> bool
-    requires based { IsBased T.places T.value_of T.size_of term.now at.q at.x.now }
-    requires pair { IsPair at.u at.v at.x.now }
+fn is_room<T: Term>(alloc: Global, term: &T, at: &At<'_>, u: usize, v: usize, number: i128) -> bool
+    requires based { IsBased T.places T.value_of T.size_of term.now at.now.q at.now.x.now }
+    requires pair { IsPair u v at.now.x.now }
 {
-    match term.room(alloc, at.q, at.x, at.u, at.v) {
+    match term.room(alloc, at, u, v) {
         Ok(Room::Upto(a)) => {
-            a == number && 0 <= a && a <= MOST_ENTRY && tells_behind(alloc, term, at, a)
+            a == number
+                && 0 <= a
+                && a <= MOST_ENTRY
+                && tells_behind(alloc, term, at, &Swap { u, v, a })
         }
         Ok(Room::Unbounded) => number == NO,
         Err(_) => false,
@@ -303,11 +296,19 @@ fn is_room<T: Term>(alloc: Global, term: &T, at: Pair, number: i128) -> bool
 }
 
 /// Whether the room of two places at what is to be a base is of that number, and notes tell the same there and after an exchange.
-fn is_told_room<T: Term>(alloc: Global, term: &T, at: Pair, number: i128) -> bool
-    requires { IsPair at.u at.v at.x.now }
+fn is_told_room<T: Term>(
+    alloc: Global,
+    term: &T,
+    at: &At<'_>,
+    u: usize,
+    v: usize,
+    number: i128,
+) -> bool
+    requires { IsPair u v at.now.x.now }
 {
-    let base = At { q: at.q, x: at.x };
-    is_base(alloc, term, base) && tells_at(alloc, term, at) && is_room(alloc, term, at, number)
+    is_base(alloc, term, at)
+        && tells_at(alloc, term, at, u, v)
+        && is_room(alloc, term, at, u, v, number)
 }
 
 /// The place of that number among k.
@@ -319,7 +320,7 @@ fn place_at(numbers: &[i128], i: usize, k: usize) -> Option<usize>
 }
 
 /// Whether the room of two places at a base is of that number, and notes tell the same.
-pub(crate) fn has_room<T: Term>(alloc: Global, term: &T, at: At, numbers: &[i128]) -> bool {
+pub(crate) fn has_room<T: Term>(alloc: Global, term: &T, at: &At<'_>, numbers: &[i128]) -> bool {
     let Some(u) = place_at(numbers, 0, at.x.len()) else {
         return false;
     };
@@ -329,36 +330,23 @@ pub(crate) fn has_room<T: Term>(alloc: Global, term: &T, at: At, numbers: &[i128
     if u == v || numbers.len() != 3 {
         return false;
     }
-    let pair = Pair {
-        q: at.q,
-        x: at.x,
-        u,
-        v,
-    };
-    is_told_room(alloc, term, pair, numbers[2])
+    is_told_room(alloc, term, at, u, v, numbers[2])
 }
 
 /// Whether the part to which a place has room at what is to be a base is that one.
-fn is_told_reach<T: Term>(alloc: Global, term: &T, at: Pair, number: usize) -> bool
-    requires { at.u < length at.x.now }
+fn is_told_reach<T: Term>(alloc: Global, term: &T, at: &At<'_>, u: usize, number: usize) -> bool
+    requires { u < length at.now.x.now }
 {
-    let base = At { q: at.q, x: at.x };
     match part(alloc, at.x.len(), number) {
-        Ok(wanted) => is_base(alloc, term, base) && is_reach(alloc, term, at, &wanted),
+        Ok(wanted) => is_base(alloc, term, at) && is_reach(alloc, term, at, u, &wanted),
         Err(_) => false,
     }
 }
 
 /// Whether the part to which a place has room at a base is that one.
-pub(crate) fn has_reach<T: Term>(alloc: Global, term: &T, at: At, numbers: &[i128]) -> bool {
+pub(crate) fn has_reach<T: Term>(alloc: Global, term: &T, at: &At<'_>, numbers: &[i128]) -> bool {
     let Some(u) = place_at(numbers, 0, at.x.len()) else {
         return false;
     };
-    let pair = Pair {
-        q: at.q,
-        x: at.x,
-        u,
-        v: u,
-    };
-    is_told_reach(alloc, term, pair, count_at(numbers, 1))
+    is_told_reach(alloc, term, at, u, count_at(numbers, 1))
 }

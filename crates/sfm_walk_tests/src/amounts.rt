@@ -1,11 +1,11 @@
 // Whether the steps of a walk can all move an amount, as their terms tell it.
-ghost use Rattle.std.specs.{Prelude.{◌≡◌, ◌≢◌, ◌<◌, ◌^◌, ℕ, List, map, pos, ◌≤ℤ◌, length, slice_index_or, IsTrue}, List.{All}};
+ghost use Rattle.std.specs.{Prelude.{◌≡◌, ◌≢◌, ◌<◌, ℕ, List, map, pos, ◌≤ℤ◌, length, slice_index_or, IsTrue}, List.{All}};
 ghost use Rattle.sfm_spec.specs.{Bounds.{AreBounded, IsEntry, IsFactor}, Terms.{times, IsBase, exchanged}, Families.{meanings, AreBases}, Walks.{AllCanMove}};
-ghost use Rattle.sfm_law.specs.Room.{AtMostRoom};
+ghost use Rattle.sfm_law.specs.{Based.{IsBased}, Room.{AtMostRoom}};
 
 use sfm_base::Rows;
 use sfm_exchange::local_of;
-use sfm_law::{Room, Term, Walk};
+use sfm_law::{At, Room, Term, Walk};
 use std::alloc::Global;
 
 /// Whether an amount is at most the room.
@@ -19,24 +19,13 @@ fn is_within(a: i128, room: Room) -> bool
 }
 
 /// Whether a term has room at a base to raise the one place of the ground by the amount and lower the other.
-fn can_step<T: Term>(
-    alloc: Global,
-    term: &T,
-    q: i128,
-    x: &[i128],
-    ends: (usize, usize),
-    a: i128,
-) -> bool
-    requires bounded { T.size_of term.now ≤ℤ pos (10 ^ 18) }
-    requires factor { IsFactor q }
-    requires entries { length x.now ≡ length (T.places term.now) }
-    requires base { IsBase (times q (T.value_of term.now)) x.now }
-    requires small { All IsEntry x.now }
+fn can_step<T: Term>(alloc: Global, term: &T, at: &At<'_>, ends: (usize, usize), a: i128) -> bool
+    requires based { IsBased T.places T.value_of T.size_of term.now at.now.q at.now.x.now }
     requires low { pos 0 ≤ℤ a }
     ensures { IsTrue result → (u : ℕ) × (v : ℕ) × (u < length (T.places term.now))
         × (v < length (T.places term.now)) × (slice_index_or (T.places term.now) u 0 ≡ ends.0)
         × (slice_index_or (T.places term.now) v 0 ≡ ends.1) × (u ≢ v)
-        × IsBase (times q (T.value_of term.now)) (exchanged x.now u v a) }
+        × IsBase (times at.now.q (T.value_of term.now)) (exchanged at.now.x.now u v a) }
 {
     let Some(u) = local_of(term.elements(), ends.0) else {
         return false;
@@ -47,7 +36,7 @@ fn can_step<T: Term>(
     if u == v {
         return false;
     }
-    match term.room(alloc, q, x, u, v) {
+    match term.room(alloc, at, u, v) {
         Ok(room) => is_within(a, room),
         Err(_) => false,
     }
@@ -75,7 +64,8 @@ pub fn can_move<T: Term>(
         if *i >= terms.len() || *i >= bases.len() {
             return false;
         }
-        if !can_step(alloc, &terms[*i], q, bases.row(*i), (from, *to), a) {
+        let x = bases.row(*i);
+        if !can_step(alloc, &terms[*i], &At { q, x }, (from, *to), a) {
             return false;
         }
         from = *to;

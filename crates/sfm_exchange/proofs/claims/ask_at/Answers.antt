@@ -7,7 +7,7 @@ use mir.Syntax.{w128}
 use Rattle.sfm_spec.specs.Bounds.{IsEntry}
 use Rattle.sfm_spec.specs.Terms.{times}
 use Rattle.sfm_spec.specs.Walks.{base_at}
-use Rattle.sfm_reach.specs.Based.{IsBased}
+use Rattle.sfm_reach.specs.Based.{IsPlacedBase}
 use Rattle.sfm_reach.specs.Bits.{blank_bits, set_at}
 use Rattle.sfm_reach.specs.Reach.{IsRow, kept_fits, table_at}
 use Rattle.sfm_exchange.proofs.Asked.{claims_fewer, claims_kept}
@@ -74,7 +74,7 @@ row_kept-requires-clause-based g c =
     let r = c.requires in
     let i = c.args.i in
     let term = c.index-terms-i.result in
-    let B : List ℤ → Type 0 = λ x. IsBased t.places t.value_of t.size_of term c.args.q x in
+    let B : List ℤ → Type 0 = λ x. IsPlacedBase t.places t.value_of t.size_of term c.args.q x in
     let b = based r.ready.claimed i r.term term c.index-terms-i.is (size_low t.places t.value_of t.size_of m.submodular m.bounded) (All-get_or (λ x. All IsEntry x) c.args.graph.now.bases i [] (rw (base_count r.ready.claimed) r.term) r.ready.small) in
     simp to_z-of_z (subst B (sym c.row-x.ensures) b)
 

@@ -7,8 +7,8 @@ use Rattle.sfm_spec.specs.Bounds.{IsEntry}
 use Rattle.sfm_spec.specs.Families.{meanings}
 use Rattle.sfm_spec.specs.Terms.{times}
 use Rattle.sfm_spec.specs.Walks.{base_at, term_at}
+use Rattle.sfm_law.specs.Based.{IsBased}
 use Rattle.sfm_law.specs.Room.{IsRoom}
-use Rattle.sfm_reach.specs.Based.{IsBased}
 use Rattle.sfm_reach.specs.Reach.{kept_fits}
 use Rattle.sfm_reach.proofs.Basing.{size_low}
 use Rattle.sfm_exchange.specs.Hops.{hop_at}
@@ -40,15 +40,15 @@ offset_bounds-terms-i g c =
     let l = rw (counted c.requires.graph) at (c.requires.movable c.loop-hop.hop-index c.loop-hop-test.true).term_in in
     omega (arith, l)
 
-pub row-requires : goal.row-requires
-row-requires g c = rw (base_count c.loop-hop.invariant.1.claimed) (rw (counted c.requires.graph) at (c.requires.movable c.loop-hop.hop-index c.loop-hop-test.true).term_in)
+pub row-x-requires : goal.row-x-requires
+row-x-requires g c = rw (base_count c.loop-hop.invariant.1.claimed) (rw (counted c.requires.graph) at (c.requires.movable c.loop-hop.hop-index c.loop-hop-test.true).term_in)
 
 -- the step is one of a term
 term_in : (g : given.Over) (c : After-at-1 g) → (hop_at c.args.hops.now c.loop-hop.hop-index).term < length c.args.terms.now
 term_in g c = rw (counted c.requires.graph) at (c.requires.movable c.loop-hop.hop-index c.loop-hop-test.true).term_in
 
 -- whose base is within the bounds
-here : (g : given.Over) (c : After-at-1 g) → let t = g.T.Term in IsBased t.places t.value_of t.size_of c.index-terms-i.result c.args.q c.row.result.now
+here : (g : given.Over) (c : After-at-1 g) → let t = g.T.Term in IsBased t.places t.value_of t.size_of c.index-terms-i.result c.args.q c.row-x.result.now
 here g c =
     let t = g.T.Term in
     let m = g.met.T.Term in
@@ -61,10 +61,10 @@ here g c =
     let bases = c.loop-hop.graph.bases in
     let sound = size_low t.places t.value_of t.size_of m.submodular m.bounded in
     let B : List ℤ → Type 0 = λ x. IsBased t.places t.value_of t.size_of term c.args.q x in
-    subst B (sym c.row.ensures) (based h i l term c.index-terms-i.is sound (All-get_or (λ x. All IsEntry x) bases i [] (rw (base_count h) l) (rw still.bases c.requires.small)))
+    subst B (sym c.row-x.ensures) (based h i l term c.index-terms-i.is sound (All-get_or (λ x. All IsEntry x) bases i [] (rw (base_count h) l) (rw still.bases c.requires.small))).based
 
 -- with an entry for each of its places
-long : (g : given.Over) (c : After-at-1 g) → length c.row.result.now ≡ length (term_at (meanings g.T.Term.places g.T.Term.value_of c.args.terms.now) (hop_at c.args.hops.now c.loop-hop.hop-index).term).places
+long : (g : given.Over) (c : After-at-1 g) → length c.row-x.result.now ≡ length (term_at (meanings g.T.Term.places g.T.Term.value_of c.args.terms.now) (hop_at c.args.hops.now c.loop-hop.hop-index).term).places
 long g c =
     let fq : FitsSigned w128 c.args.q = c.ranges.q in
     let still = simp to_z-of_z at c.loop-hop.invariant.1 in
@@ -79,17 +79,13 @@ room_kept-requires-clause-noted g c =
     let still = simp to_z-of_z at c.loop-hop.invariant.1 in
     let term = c.index-terms-i.result in
     let F : List ℤ → Type 0 = λ x. kept_fits g.T.Term.fits term c.index_mut-note.result.now c.args.q x in
-    let noted : F c.row.result.now = subst F (sym c.row.ensures) (still.claimed.noted (hop_at c.args.hops.now c.loop-hop.hop-index).term (term_in g c) term c.index-terms-i.is c.index_mut-note.result.now c.index_mut-note.ensures.value) in
+    let noted : F c.row-x.result.now = subst F (sym c.row-x.ensures) (still.claimed.noted (hop_at c.args.hops.now c.loop-hop.hop-index).term (term_in g c) term c.index-terms-i.is c.index_mut-note.result.now c.index_mut-note.ensures.value) in
     simp to_z-of_z noted
 
-pub room_kept-requires-clause-apart : goal.room_kept-requires-clause-apart
-room_kept-requires-clause-apart g c = (c.requires.movable c.loop-hop.hop-index c.loop-hop-test.true).apart
-
-pub room_kept-requires-clause-from : goal.room_kept-requires-clause-from
-room_kept-requires-clause-from g c = rw (long g c) (c.requires.movable c.loop-hop.hop-index c.loop-hop-test.true).u_in
-
-pub room_kept-requires-clause-onto : goal.room_kept-requires-clause-onto
-room_kept-requires-clause-onto g c = rw (long g c) (c.requires.movable c.loop-hop.hop-index c.loop-hop-test.true).v_in
+pub room_kept-requires-clause-pair : goal.room_kept-requires-clause-pair
+room_kept-requires-clause-pair g c =
+    let can = c.requires.movable c.loop-hop.hop-index c.loop-hop-test.true in
+    record { apart = can.apart; from = rw (long g c) can.u_in; onto = rw (long g c) can.v_in }
 
 pub loop-hop-preserved : goal.loop-hop-preserved
 loop-hop-preserved g c =
@@ -110,10 +106,10 @@ loop-hop-preserved g c =
     let graph = c.loop-hop.graph in
     let note = c.room_kept.new.kept in
     let o = c.in_ok-room.ensures in
-    let told = rw c.row.ensures at (simp to_z-of_z at o.room) in
+    let told = rw c.row-x.ensures at (simp to_z-of_z at o.room) in
     let here : IsRoom (times c.args.q (term_at ts i).value) (base_at graph.bases i) hop.u hop.v c.in_ok-room.room = rw (means h i l term is) told in
     let room = rw inv.1.bases at here in
-    let fit : kept_fits t.fits term note c.args.q (base_at graph.bases i) = rw c.row.ensures at (simp to_z-of_z at o.noted) in
+    let fit : kept_fits t.fits term note c.args.q (base_at graph.bases i) = rw c.row-x.ensures at (simp to_z-of_z at o.noted) in
     let a : ℤ = to_z w128 c.loop-hop.a-bits in
     let e = c.within-a.ensures in
     let more = amount_more ts c.args.q c.args.graph.now.bases c.requires.graph.are_bases c.args.hops.now k c.args.most a c.within-a.result c.in_ok-room.room can inv.0 room (λ j lj. c.requires.movable j (omega (arith, lj, c.loop-hop-test.true))) e.low e.room e.greatest in

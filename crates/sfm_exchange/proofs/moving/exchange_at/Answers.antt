@@ -1,15 +1,13 @@
-use Rattle.std.proofs.Common.{◌≡◌, ◌<◌, ◌^◌, ◌++◌, List, ℤ, pos, ◌≤ℤ◌, length, set, take, drop, inr, refl, sym, ap, ◌∙◌, subst, arith, get_or-set_same, FitsSigned}
-use Rattle.std.proofs.lemmas.Int.{ints, to_z-of_z}
+use Rattle.std.proofs.Common.{◌≡◌, ◌++◌, List, ℤ, length, set, take, drop, inr, refl, sym, ap, ◌∙◌, subst, arith, get_or-set_same, FitsSigned}
+use Rattle.std.proofs.lemmas.Int.{to_z-of_z}
 use Rattle.std.proofs.lemmas.List.{take_at}
 use mir.Syntax.{w128}
 use mir.Val.{of_z, to_z}
-use Rattle.std.specs.List.{All}
-use Rattle.sfm_spec.specs.Bounds.{IsEntry, IsFactor}
-use Rattle.sfm_spec.specs.Terms.{times, exchanged, IsBase}
+use Rattle.sfm_spec.specs.Terms.{times, exchanged}
 use Rattle.sfm_spec.specs.Walks.{base_at}
 use Rattle.sfm_spec.proofs.Sums.{length-exchanged}
-use Rattle.sfm_law.specs.Room.{IsWithinRoom}
-use Rattle.sfm_reach.specs.Based.{IsBased}
+use Rattle.sfm_law.specs.Based.{CanSwap, IsBased}
+use Rattle.sfm_reach.specs.Based.{IsPlacedBase}
 use Rattle.sfm_reach.specs.Reach.{kept_fits}
 use Rattle.sfm_exchange.specs.Claimed.{AreClaims}
 use Rattle.sfm_reach.proofs.Basing.{based_after, size_low}
@@ -19,27 +17,27 @@ use Rattle.sfm_exchange.proofs.moving.exchange_at.Goals as goal
 use Rattle.sfm_exchange.proofs.moving.exchange_at.Goals.{After-at-1, After-row_mut-x}
 
 -- the row of the term is a base of it within the bounds
-here : (g : given.Over) (c : After-row_mut-x g) → let t = g.T.Term in IsBased t.places t.value_of t.size_of c.index-terms-i.result c.args.q (base_at c.args.graph.now.bases c.args.hop.term)
+here : (g : given.Over) (c : After-row_mut-x g) → let t = g.T.Term in IsPlacedBase t.places t.value_of t.size_of c.index-terms-i.result c.args.q (base_at c.args.graph.now.bases c.args.hop.term)
 here g c =
     let t = g.T.Term in
     let m = g.met.T.Term in
     let r = c.requires in
     based r.graph c.args.hop.term r.inside c.index-terms-i.result c.index-terms-i.is (size_low t.places t.value_of t.size_of m.submodular m.bounded) r.can.small
 
--- as the calls are given it
-base : (g : given.Over) (c : After-row_mut-x g) → IsBase (times (to_z w128 (of_z w128 c.args.q)) (g.T.Term.value_of c.index-terms-i.result)) c.row_mut-x.result.now
-base g c =
+-- also as the calls are given it
+given_base : (g : given.Over) (c : After-row_mut-x g) → let t = g.T.Term in IsBased t.places t.value_of t.size_of c.index-terms-i.result (to_z w128 (of_z w128 c.args.q)) c.row_mut-x.result.now
+given_base g c =
     let fq : FitsSigned w128 c.args.q = c.ranges.q in
-    rw c.row_mut-x.ensures.value (simp to_z-of_z (here g c).base)
+    rw c.row_mut-x.ensures.value (simp to_z-of_z (here g c).based)
 
--- and the exchange is within its room
-room : (g : given.Over) (c : After-row_mut-x g) → IsWithinRoom (times (to_z w128 (of_z w128 c.args.q)) (g.T.Term.value_of c.index-terms-i.result)) c.row_mut-x.result.now c.args.hop.u c.args.hop.v (to_z w128 (of_z w128 c.args.a))
-room g c =
+-- and the exchange can be made there
+can : (g : given.Over) (c : After-row_mut-x g) → CanSwap (times (to_z w128 (of_z w128 c.args.q)) (g.T.Term.value_of c.index-terms-i.result)) c.row_mut-x.result.now c.args.hop.u c.args.hop.v (to_z w128 (of_z w128 c.args.a))
+can g c =
     let r = c.requires in
     let fq : FitsSigned w128 c.args.q = c.ranges.q in
     let fa : FitsSigned w128 c.args.a = c.ranges.a in
-    let within = rw (means r.graph c.args.hop.term r.inside c.index-terms-i.result c.index-terms-i.is) at r.can.room in
-    simp to_z-of_z (rw c.row_mut-x.ensures.value within)
+    let swap = rw (means r.graph c.args.hop.term r.inside c.index-terms-i.result c.index-terms-i.is) at r.can.swap in
+    rw c.row_mut-x.ensures.value (simp to_z-of_z swap)
 
 -- what it has become by the exchange
 came : (g : given.Over) (c : After-at-1 g) → c.exchange.new.x ≡ exchanged (base_at c.args.graph.now.bases c.args.hop.term) c.args.hop.u c.args.hop.v c.args.a
@@ -48,8 +46,8 @@ came g c =
     simp to_z-of_z at (rw c.row_mut-x.ensures.value at c.exchange.ensures.moved)
 
 -- which is such a base too
-still : (g : given.Over) (c : After-at-1 g) (b : let t = g.T.Term in IsBased t.places t.value_of t.size_of c.index-terms-i.result c.args.q (base_at c.args.graph.now.bases c.args.hop.term))
-    → let t = g.T.Term in IsBased t.places t.value_of t.size_of c.index-terms-i.result c.args.q c.exchange.new.x
+still : (g : given.Over) (c : After-at-1 g) (b : let t = g.T.Term in IsPlacedBase t.places t.value_of t.size_of c.index-terms-i.result c.args.q (base_at c.args.graph.now.bases c.args.hop.term))
+    → let t = g.T.Term in IsPlacedBase t.places t.value_of t.size_of c.index-terms-i.result c.args.q c.exchange.new.x
 still g c b =
     let t = g.T.Term in
     let fq : FitsSigned w128 c.args.q = c.ranges.q in
@@ -63,34 +61,11 @@ long g c = ap length (came g c) ∙ length-exchanged (base_at c.args.graph.now.b
 pub row_mut-x-requires : goal.row_mut-x-requires
 row_mut-x-requires g c = rw (base_count c.requires.graph) c.requires.inside
 
--- what both calls ask for
-factor : (g : given.Over) (c : After-row_mut-x g) → IsFactor (to_z w128 (of_z w128 c.args.q))
-factor g c = let fq : FitsSigned w128 c.args.q = c.ranges.q in simp to_z-of_z c.requires.graph.factor
+pub move_kept-requires-clause-based : goal.move_kept-requires-clause-based
+move_kept-requires-clause-based g c = given_base g (goal.at.move_kept-requires-clause-based g c).After-row_mut-x
 
-entries : (g : given.Over) (c : After-row_mut-x g) → length c.row_mut-x.result.now ≡ length (g.T.Term.places c.index-terms-i.result)
-entries g c = rw c.row_mut-x.ensures.value (here g c).entries
-
-small : (g : given.Over) (c : After-row_mut-x g) → All IsEntry c.row_mut-x.result.now
-small g c = rw c.row_mut-x.ensures.value c.requires.can.small
-
-from : (g : given.Over) (c : After-row_mut-x g) → c.args.hop.u < length c.row_mut-x.result.now
-from g c = rw c.row_mut-x.ensures.value c.requires.can.raised
-
-onto : (g : given.Over) (c : After-row_mut-x g) → c.args.hop.v < length c.row_mut-x.result.now
-onto g c = rw c.row_mut-x.ensures.value c.requires.can.lowered
-
-low : (g : given.Over) (c : After-row_mut-x g) → pos 0 ≤ℤ to_z w128 (of_z w128 c.args.a)
-low g c =
-    let fa : FitsSigned w128 c.args.a = c.ranges.a in
-    let some = c.requires.low in
-    let least : pos 0 ≤ℤ c.args.a = omega (arith, ints, some) in
-    simp to_z-of_z least
-
-high : (g : given.Over) (c : After-row_mut-x g) → to_z w128 (of_z w128 c.args.a) ≤ℤ pos (10 ^ 30)
-high g c = let fa : FitsSigned w128 c.args.a = c.ranges.a in simp to_z-of_z c.requires.high
-
-noted : (g : given.Over) (c : After-row_mut-x g) → kept_fits g.T.Term.fits c.index-terms-i.result c.index_mut-note.result.now (to_z w128 (of_z w128 c.args.q)) c.row_mut-x.result.now
-noted g c =
+pub move_kept-requires-clause-noted : goal.move_kept-requires-clause-noted
+move_kept-requires-clause-noted g c =
     let fq : FitsSigned w128 c.args.q = c.ranges.q in
     let r = c.requires in
     let term = c.index-terms-i.result in
@@ -98,39 +73,15 @@ noted g c =
     let fit : F c.row_mut-x.result.now = subst F (sym c.row_mut-x.ensures.value) (r.graph.noted c.args.hop.term r.inside term c.index-terms-i.is c.index_mut-note.result.now c.index_mut-note.ensures.value) in
     simp to_z-of_z fit
 
-pub move_kept-requires-clause-based : goal.move_kept-requires-clause-based
-move_kept-requires-clause-based g c =
-    let t = g.T.Term in
-    let fq : FitsSigned w128 c.args.q = c.ranges.q in
-    let at = (goal.at.move_kept-requires-clause-based g c).After-row_mut-x in
-    let B : List ℤ → Type 0 = λ x. IsBased t.places t.value_of t.size_of c.index-terms-i.result c.args.q x in
-    simp to_z-of_z (subst B (sym c.row_mut-x.ensures.value) (here g at))
-
-pub move_kept-requires-clause-noted : goal.move_kept-requires-clause-noted
-move_kept-requires-clause-noted g c = noted g (goal.at.move_kept-requires-clause-noted g c).After-row_mut-x
-
-pub move_kept-requires-clause-apart : goal.move_kept-requires-clause-apart
-move_kept-requires-clause-apart g c = c.requires.can.apart
-
-pub move_kept-requires-clause-from : goal.move_kept-requires-clause-from
-move_kept-requires-clause-from g c = from g (goal.at.move_kept-requires-clause-from g c).After-row_mut-x
-
-pub move_kept-requires-clause-onto : goal.move_kept-requires-clause-onto
-move_kept-requires-clause-onto g c = onto g (goal.at.move_kept-requires-clause-onto g c).After-row_mut-x
-
-pub move_kept-requires-clause-low : goal.move_kept-requires-clause-low
-move_kept-requires-clause-low g c = low g (goal.at.move_kept-requires-clause-low g c).After-row_mut-x
-
-pub move_kept-requires-clause-high : goal.move_kept-requires-clause-high
-move_kept-requires-clause-high g c = high g (goal.at.move_kept-requires-clause-high g c).After-row_mut-x
-
-pub move_kept-requires-clause-room : goal.move_kept-requires-clause-room
-move_kept-requires-clause-room g c = room g (goal.at.move_kept-requires-clause-room g c).After-row_mut-x
+pub move_kept-requires-clause-can : goal.move_kept-requires-clause-can
+move_kept-requires-clause-can g c = can g (goal.at.move_kept-requires-clause-can g c).After-row_mut-x
 
 pub exchange-requires : goal.exchange-requires
 exchange-requires g c =
     let at = (goal.at.exchange-requires g c).After-row_mut-x in
-    record { factor = factor g at; entries = entries g at; small = small g at; apart = c.requires.can.apart; from = from g at; onto = onto g at; base = base g at; low = low g at; high = high g at; room = room g at }
+    let b = given_base g at in
+    let s = can g at in
+    record { factor = b.factor; entries = b.entries; small = b.small; apart = s.apart; from = s.from; onto = s.onto; base = b.base; low = s.low; high = s.high; room = s.room }
 
 pub renew_kept-requires-clause-based : goal.renew_kept-requires-clause-based
 renew_kept-requires-clause-based g c =
@@ -141,21 +92,12 @@ renew_kept-requires-clause-based g c =
 pub renew_kept-requires-clause-noted : goal.renew_kept-requires-clause-noted
 renew_kept-requires-clause-noted g c = rw c.exchange.ensures.moved c.in_ok-move_kept.ensures
 
-pub renew_kept-requires-clause-apart : goal.renew_kept-requires-clause-apart
-renew_kept-requires-clause-apart g c = c.requires.can.apart
-
-pub renew_kept-requires-clause-raised : goal.renew_kept-requires-clause-raised
-renew_kept-requires-clause-raised g c = let at = goal.at.renew_kept-requires-clause-raised g c in rw (long g at.After-at-1) c.requires.can.raised
-
-pub renew_kept-requires-clause-lowered : goal.renew_kept-requires-clause-lowered
-renew_kept-requires-clause-lowered g c = let at = goal.at.renew_kept-requires-clause-lowered g c in rw (long g at.After-at-1) c.requires.can.lowered
-
 pub renew_kept-requires-clause-rows : goal.renew_kept-requires-clause-rows
 renew_kept-requires-clause-rows g c =
     let r = c.requires in
     let at = goal.at.renew_kept-requires-clause-rows g c in
     let shown = rows_shown r.graph c.args.hop.term r.inside c.index-terms-i.result c.index-terms-i.is c.index_mut-rows.result.now c.index_mut-rows.ensures.value in
-    shown.1 ∙ sym (still g at.After-at-1 (here g at.After-row_mut-x)).entries
+    shown.1 ∙ sym (still g at.After-at-1 (here g at.After-row_mut-x)).based.entries
 
 pub renew_kept-requires-clause-before : goal.renew_kept-requires-clause-before
 renew_kept-requires-clause-before g c =
@@ -167,7 +109,13 @@ renew_kept-requires-clause-before g c =
     let shown = rows_shown r.graph c.args.hop.term r.inside c.index-terms-i.result c.index-terms-i.is c.index_mut-rows.result.now c.index_mut-rows.ensures.value in
     let claimed_are = claimed_shown r.graph i r.inside c.index-terms-i.result c.index-terms-i.is c.index_mut-claimed.result.now c.index_mut-claimed.ensures.value in
     let told : AreClaims (g.T.Term.places c.index-terms-i.result) (times c.args.q (g.T.Term.value_of c.index-terms-i.result)) (base_at c.args.graph.now.bases i) c.index_mut-claimed.result.now c.index_mut-rows.result.now = rw (shown.0, claimed_are) (claims_at r.graph i r.inside c.index-terms-i.result c.index-terms-i.is) in
-    simp to_z-of_z (base_at c.args.graph.now.bases i, record { base = (here g at.After-row_mut-x).base; amount = c.args.a; some = r.low; is = came g at.After-at-1 }, told)
+    let same = long g at.After-at-1 in
+    simp to_z-of_z (record {
+      pair = record { apart = r.can.swap.apart; from = rw same r.can.swap.from; onto = rw same r.can.swap.onto };
+      before = base_at c.args.graph.now.bases i;
+      came = record { base = (here g at.After-row_mut-x).based.base; amount = c.args.a; some = r.low; is = came g at.After-at-1 };
+      claims = told;
+    })
 
 pub renew-requires-clause-rows : goal.renew-requires-clause-rows
 renew-requires-clause-rows g c =

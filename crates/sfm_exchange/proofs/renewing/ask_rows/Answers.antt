@@ -10,7 +10,7 @@ pub row_after-requires-clause-leads : goal.row_after-requires-clause-leads
 row_after-requires-clause-leads g c =
     let shown = c.elements-places.ensures in
     let one = rw shown at (c.if-contains.ensures.0 refl) in
-    c.requires.leads c.loop-u.u (omega (arith, c.requires.based.entries, ap length shown, c.loop-u-test.true)) one
+    c.requires.leads c.loop-u.u (omega (arith, c.requires.based.based.entries, ap length shown, c.loop-u-test.true)) one
 
 pub loop-u-preserved : goal.loop-u-preserved
 loop-u-preserved g c =
@@ -18,16 +18,16 @@ loop-u-preserved g c =
     let shown = c.elements-places.ensures in
     let at = c.args.at.now in
     let places = t.places at.term.now in
-    let f = times at.q (t.value_of at.term.now) in
+    let f = times at.base.q (t.value_of at.term.now) in
     let inv = c.loop-u.invariant in
-    let l : c.loop-u.u < length c.loop-u.rows = omega (arith, inv.0.count, ap length c.lend_image.ensures.same, c.requires.rows, c.requires.based.entries, ap length shown, c.loop-u-test.true) in
+    let l : c.loop-u.u < length c.loop-u.rows = omega (arith, inv.0.count, ap length c.lend_image.ensures.same, c.requires.rows, c.requires.based.based.entries, ap length shown, c.loop-u-test.true) in
     elim c.if-contains.branch [
       | then-contains+in_ok-row w ↦
           let one = rw shown at (w.if-contains.ensures.0 refl) in
-          (rw (w.rows-is, w.set.ensures) (asked_more places f at.x.now c.args.changed.now c.loop-u.u c.lend_image.new.self c.loop-u.rows w.in_ok-row.row inv.0 l one w.in_ok-row.ensures.row), rw w.note-is w.in_ok-row.ensures.noted, rw w.image-is w.in_ok-row.ensures.image)
+          (rw (w.rows-is, w.set.ensures) (asked_more places f at.base.x.now c.args.changed.now c.loop-u.u c.lend_image.new.self c.loop-u.rows w.in_ok-row.row inv.0 l one w.in_ok-row.ensures.row), rw w.note-is w.in_ok-row.ensures.noted, rw w.image-is w.in_ok-row.ensures.image)
       | else-contains w ↦
           let none : bit_in c.args.changed.now (get_or places c.loop-u.u 0) ≢ 1 = λ one. both_ways false refl (w.if-contains.ensures.1 (rw shown one)) in
-          (rw w.rows-is (asked_past places f at.x.now c.args.changed.now c.loop-u.u c.lend_image.new.self c.loop-u.rows inv.0 none), rw w.note-is inv.1, rw w.image-is inv.2)
+          (rw w.rows-is (asked_past places f at.base.x.now c.args.changed.now c.loop-u.u c.lend_image.new.self c.loop-u.rows inv.0 none), rw w.note-is inv.1, rw w.image-is inv.2)
     ]
 
 pub returns-clause-asked : goal.returns-clause-asked
@@ -41,28 +41,13 @@ returns-clause-asked g c =
     rw (c.keep_image.ensures, ← all, ← c.lend_image.ensures.same) c.loop-u.invariant.0
 
 pub lend_image-requires : goal.lend_image-requires
-lend_image-requires g c = omega (arith, c.requires.rows, c.requires.based.entries, ap length c.elements-places.ensures)
+lend_image-requires g c = omega (arith, c.requires.rows, c.requires.based.based.entries, ap length c.elements-places.ensures)
 
 pub loop-u-init : goal.loop-u-init
 loop-u-init g c = (record { count = refl; asked = λ u l one. absurd (omega (arith, l)); others = λ u l none. refl }, c.requires.noted, rw c.elements-places.ensures at c.in_ok-image.ensures.image)
 
-pub row_after-requires-clause-based : goal.row_after-requires-clause-based
-row_after-requires-clause-based g c = c.requires.based
-
-pub row_after-requires-clause-noted : goal.row_after-requires-clause-noted
-row_after-requires-clause-noted g c = c.loop-u.invariant.1
-
-pub row_after-requires-clause-raised : goal.row_after-requires-clause-raised
-row_after-requires-clause-raised g c = c.requires.raised
-
 pub row_after-requires-clause-from : goal.row_after-requires-clause-from
-row_after-requires-clause-from g c = omega (arith, c.requires.based.entries, ap length c.elements-places.ensures, c.loop-u-test.true)
-
-pub row_after-requires-clause-image : goal.row_after-requires-clause-image
-row_after-requires-clause-image g c = c.loop-u.invariant.2
+row_after-requires-clause-from g c = omega (arith, c.requires.based.based.entries, ap length c.elements-places.ensures, c.loop-u-test.true)
 
 pub set-requires : goal.set-requires
-set-requires g c = omega (arith, c.loop-u.invariant.0.count, ap length c.lend_image.ensures.same, c.requires.rows, c.requires.based.entries, ap length c.elements-places.ensures, c.loop-u-test.true)
-
-pub returns-clause-noted : goal.returns-clause-noted
-returns-clause-noted g c = c.loop-u.invariant.1
+set-requires g c = omega (arith, c.loop-u.invariant.0.count, ap length c.lend_image.ensures.same, c.requires.rows, c.requires.based.based.entries, ap length c.elements-places.ensures, c.loop-u-test.true)

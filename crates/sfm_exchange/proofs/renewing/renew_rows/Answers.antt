@@ -12,7 +12,7 @@ use Rattle.sfm_exchange.proofs.renewing.renew_rows.Goals as goal
 use Rattle.sfm_exchange.proofs.renewing.renew_rows.Goals.{After-depending-changed}
 
 -- the exchange, and the places that depended on the last place of the step
-renewing : (g : given.Over) (c : After-depending-changed g) → let at = c.args.at.now in IsRenewing (g.T.Term.places at.term.now) (times at.q (g.T.Term.value_of at.term.now)) c.args.hop.u c.args.hop.v c.requires.before.0 at.x.now
+renewing : (g : given.Over) (c : After-depending-changed g) → let at = c.args.at.now in IsRenewing (g.T.Term.places at.term.now) (times at.base.q (g.T.Term.value_of at.term.now)) c.args.hop.u c.args.hop.v c.requires.before.before at.base.x.now
     c.args.claimed.now c.depending-changed.result c.args.rows.now
 renewing g c =
     let term = c.args.at.now.term.now in
@@ -21,17 +21,17 @@ renewing g c =
     record {
       raising = record {
         distinct = b.placed.distinct;
-        family = family-times _ c.args.at.now.q _ (g.met.T.Term.family term);
-        law = submodular-times _ c.args.at.now.q _ (omega (arith, ints, b.factor.low)) (g.met.T.Term.submodular term);
-        raised = rw (← b.entries) r.raised;
-        lowered = rw (← b.entries) r.lowered;
-        apart = r.apart;
-        entries = b.entries;
-        base = b.base;
-        moved = r.before.1;
+        family = family-times _ c.args.at.now.base.q _ (g.met.T.Term.family term);
+        law = submodular-times _ c.args.at.now.base.q _ (omega (arith, ints, b.based.factor.low)) (g.met.T.Term.submodular term);
+        raised = rw (← b.based.entries) r.before.pair.from;
+        lowered = rw (← b.based.entries) r.before.pair.onto;
+        apart = r.before.pair.apart;
+        entries = b.based.entries;
+        base = b.based.base;
+        moved = r.before.came;
       };
-      claims = r.before.2;
-      count = r.rows ∙ b.entries;
+      claims = r.before.claims;
+      count = r.rows ∙ b.based.entries;
       all = rw (c.elements-places.ensures, c.as_slice.ensures) at c.depending-changed.ensures;
     }
 
@@ -51,7 +51,7 @@ pub ask_rows-requires-clause-leads : goal.ask_rows-requires-clause-leads
 ask_rows-requires-clause-leads g c = λ u l one.
     let r = renewing g (goal.at.ask_rows-requires-clause-leads g c).After-depending-changed in
     let out = rw c.elements-places.ensures at c.remove.ensures in
-    lead_to_s r (c.asks_at_once.ensures c.if-asks_at_once.true) u (rw (← c.requires.based.entries) l) (of_others _ _ _ out.out out.others _ one)
+    lead_to_s r (c.asks_at_once.ensures c.if-asks_at_once.true) u (rw (← c.requires.based.based.entries) l) (of_others _ _ _ out.out out.others _ one)
 
 pub returns-then-asks_at_once-clause-raised : goal.returns-then-asks_at_once-clause-raised
 returns-then-asks_at_once-clause-raised g c =
@@ -85,60 +85,33 @@ pub depending-changed-requires-clause-placed : goal.depending-changed-requires-c
 depending-changed-requires-clause-placed g c = rw c.elements-places.ensures c.requires.based.placed
 
 pub depending-changed-requires-clause-rows : goal.depending-changed-requires-clause-rows
-depending-changed-requires-clause-rows g c = rw (c.as_slice.ensures, c.elements-places.ensures) (c.requires.rows ∙ c.requires.based.entries)
+depending-changed-requires-clause-rows g c = rw (c.as_slice.ensures, c.elements-places.ensures) (c.requires.rows ∙ c.requires.based.based.entries)
 
 pub depending-changed-requires-clause-lowered : goal.depending-changed-requires-clause-lowered
-depending-changed-requires-clause-lowered g c = rw (c.elements-places.ensures, ← c.requires.based.entries) c.requires.lowered
-
-pub row-before-requires : goal.row-before-requires
-row-before-requires g c = omega (arith, c.requires.rows, c.requires.raised)
-
-pub row_by-requires-clause-based : goal.row_by-requires-clause-based
-row_by-requires-clause-based g c = c.requires.based
-
-pub row_by-requires-clause-noted : goal.row_by-requires-clause-noted
-row_by-requires-clause-noted g c = c.requires.noted
-
-pub row_by-requires-clause-from : goal.row_by-requires-clause-from
-row_by-requires-clause-from g c = c.requires.raised
-
-pub row_by-requires-clause-rows : goal.row_by-requires-clause-rows
-row_by-requires-clause-rows g c = c.requires.rows
-
-pub returns-then-contains-clause-noted : goal.returns-then-contains-clause-noted
-returns-then-contains-clause-noted g c = c.in_ok-of_s.ensures.noted
-
-pub returns-clause-noted : goal.returns-clause-noted
-returns-clause-noted g c = c.in_ok-of_s.ensures.noted
+depending-changed-requires-clause-lowered g c = rw (c.elements-places.ensures, ← c.requires.based.based.entries) c.requires.before.pair.onto
 
 pub contains-requires : goal.contains-requires
-contains-requires g c = let b = c.requires.based in rw c.elements-places.ensures (b.placed.below c.args.hop.v (rw (← b.entries) c.requires.lowered))
+contains-requires g c = let b = c.requires.based in rw c.elements-places.ensures (b.placed.below c.args.hop.v (rw (← b.based.entries) c.requires.before.pair.onto))
 
 pub take_in_raised-requires-clause-placed : goal.take_in_raised-requires-clause-placed
 take_in_raised-requires-clause-placed g c = rw c.elements-places.ensures c.requires.based.placed
 
 pub take_in_raised-requires-clause-rows : goal.take_in_raised-requires-clause-rows
-take_in_raised-requires-clause-rows g c = rw (c.in_ok-of_s.ensures.same, c.elements-places.ensures) (c.requires.rows ∙ c.requires.based.entries)
+take_in_raised-requires-clause-rows g c = rw (c.in_ok-of_s.ensures.same, c.elements-places.ensures) (c.requires.rows ∙ c.requires.based.based.entries)
 
 pub take_in_raised-requires-clause-local : goal.take_in_raised-requires-clause-local
-take_in_raised-requires-clause-local g c = rw (c.elements-places.ensures, ← c.requires.based.entries) c.requires.raised
+take_in_raised-requires-clause-local g c = rw (c.elements-places.ensures, ← c.requires.based.based.entries) c.requires.before.pair.from
 
 pub take_in_raised-requires-clause-place : goal.take_in_raised-requires-clause-place
-take_in_raised-requires-clause-place g c = let b = c.requires.based in rw c.elements-places.ensures (b.placed.below c.args.hop.u (rw (← b.entries) c.requires.raised))
+take_in_raised-requires-clause-place g c = let b = c.requires.based in rw c.elements-places.ensures (b.placed.below c.args.hop.u (rw (← b.based.entries) c.requires.before.pair.from))
 
 pub settle_raised-requires : goal.settle_raised-requires
-settle_raised-requires g c = let b = c.requires.based in rw c.elements-places.ensures (b.placed.below c.args.hop.u (rw (← b.entries) c.requires.raised))
-
-pub ask_rows-requires-clause-based : goal.ask_rows-requires-clause-based
-ask_rows-requires-clause-based g c = c.requires.based
-
-pub ask_rows-requires-clause-noted : goal.ask_rows-requires-clause-noted
-ask_rows-requires-clause-noted g c = c.in_ok-of_s.ensures.noted
+settle_raised-requires g c = let b = c.requires.based in rw c.elements-places.ensures (b.placed.below c.args.hop.u (rw (← b.based.entries) c.requires.before.pair.from))
 
 pub ask_rows-requires-clause-raised : goal.ask_rows-requires-clause-raised
 ask_rows-requires-clause-raised g c =
     let b = c.requires.based in
-    record { within = rw (← b.entries) c.requires.raised; place_is = rw c.elements-places.ensures refl; row_is = c.in_ok-of_s.ensures.row }
+    record { within = rw (← b.based.entries) c.requires.before.pair.from; place_is = rw c.elements-places.ensures refl; row_is = c.in_ok-of_s.ensures.row }
 
 pub ask_rows-requires-clause-rows : goal.ask_rows-requires-clause-rows
 ask_rows-requires-clause-rows g c = ap length c.set.ensures ∙ (length-set c.row_by.new.rows c.args.hop.u c.in_ok-of_s.of_s ∙ (ap length c.in_ok-of_s.ensures.same ∙ c.requires.rows))
@@ -147,25 +120,25 @@ pub take_in_raised-requires-2-clause-placed : goal.take_in_raised-requires-2-cla
 take_in_raised-requires-2-clause-placed g c = rw c.elements-places.ensures c.requires.based.placed
 
 pub take_in_raised-requires-2-clause-rows : goal.take_in_raised-requires-2-clause-rows
-take_in_raised-requires-2-clause-rows g c = rw (c.in_ok-of_s.ensures.same, c.elements-places.ensures) (c.requires.rows ∙ c.requires.based.entries)
+take_in_raised-requires-2-clause-rows g c = rw (c.in_ok-of_s.ensures.same, c.elements-places.ensures) (c.requires.rows ∙ c.requires.based.based.entries)
 
 pub take_in_raised-requires-2-clause-local : goal.take_in_raised-requires-2-clause-local
-take_in_raised-requires-2-clause-local g c = rw (c.elements-places.ensures, ← c.requires.based.entries) c.requires.raised
+take_in_raised-requires-2-clause-local g c = rw (c.elements-places.ensures, ← c.requires.based.based.entries) c.requires.before.pair.from
 
 pub take_in_raised-requires-2-clause-place : goal.take_in_raised-requires-2-clause-place
-take_in_raised-requires-2-clause-place g c = let b = c.requires.based in rw c.elements-places.ensures (b.placed.below c.args.hop.u (rw (← b.entries) c.requires.raised))
+take_in_raised-requires-2-clause-place g c = let b = c.requires.based in rw c.elements-places.ensures (b.placed.below c.args.hop.u (rw (← b.based.entries) c.requires.before.pair.from))
 
 pub settle_raised-changes-requires : goal.settle_raised-changes-requires
-settle_raised-changes-requires g c = let b = c.requires.based in rw c.elements-places.ensures (b.placed.below c.args.hop.u (rw (← b.entries) c.requires.raised))
+settle_raised-changes-requires g c = let b = c.requires.based in rw c.elements-places.ensures (b.placed.below c.args.hop.u (rw (← b.based.entries) c.requires.before.pair.from))
 
 pub settle_shared-requires-clause-placed : goal.settle_shared-requires-clause-placed
 settle_shared-requires-clause-placed g c = rw c.elements-places.ensures c.requires.based.placed
 
 pub settle_shared-requires-clause-place : goal.settle_shared-requires-clause-place
-settle_shared-requires-clause-place g c = let b = c.requires.based in rw c.elements-places.ensures (b.placed.below c.args.hop.u (rw (← b.entries) c.requires.raised))
+settle_shared-requires-clause-place g c = let b = c.requires.based in rw c.elements-places.ensures (b.placed.below c.args.hop.u (rw (← b.based.entries) c.requires.before.pair.from))
 
 pub settle_shared-requires-clause-rows : goal.settle_shared-requires-clause-rows
-settle_shared-requires-clause-rows g c = c.take_in_raised-2.ensures.count ∙ rw (c.in_ok-of_s.ensures.same, c.elements-places.ensures) (c.requires.rows ∙ c.requires.based.entries)
+settle_shared-requires-clause-rows g c = c.take_in_raised-2.ensures.count ∙ rw (c.in_ok-of_s.ensures.same, c.elements-places.ensures) (c.requires.rows ∙ c.requires.based.based.entries)
 
 pub returns-then-contains-clause-rows : goal.returns-then-contains-clause-rows
 returns-then-contains-clause-rows g c = c.take_in_raised.ensures.count ∙ ap length c.in_ok-of_s.ensures.same
@@ -176,17 +149,14 @@ returns-then-asks_at_once-clause-rows g c = c.in_ok-ask_rows.ensures.asked.count
 pub returns-clause-rows : goal.returns-clause-rows
 returns-clause-rows g c = c.settle_shared.ensures.rows.count ∙ (c.take_in_raised-2.ensures.count ∙ ap length c.in_ok-of_s.ensures.same)
 
-pub returns-then-asks_at_once-clause-noted : goal.returns-then-asks_at_once-clause-noted
-returns-then-asks_at_once-clause-noted g c = c.in_ok-ask_rows.ensures.noted
-
 pub bounds-places-hop : goal.bounds-places-hop
-bounds-places-hop g c = rw (c.elements-places.ensures, ← c.requires.based.entries) c.requires.raised
+bounds-places-hop g c = rw (c.elements-places.ensures, ← c.requires.based.based.entries) c.requires.before.pair.from
 
 pub bounds-places-hop-2 : goal.bounds-places-hop-2
-bounds-places-hop-2 g c = rw (c.elements-places.ensures, ← c.requires.based.entries) c.requires.lowered
+bounds-places-hop-2 g c = rw (c.elements-places.ensures, ← c.requires.based.based.entries) c.requires.before.pair.onto
 
 pub set-requires : goal.set-requires
-set-requires g c = rw (c.in_ok-of_s.ensures.same, c.requires.rows) c.requires.raised
+set-requires g c = rw (c.in_ok-of_s.ensures.same, c.requires.rows) c.requires.before.pair.from
 
 pub remove-requires : goal.remove-requires
-remove-requires g c = let b = c.requires.based in rw c.elements-places.ensures (b.placed.below c.args.hop.u (rw (← b.entries) c.requires.raised))
+remove-requires g c = let b = c.requires.based in rw c.elements-places.ensures (b.placed.below c.args.hop.u (rw (← b.based.entries) c.requires.before.pair.from))

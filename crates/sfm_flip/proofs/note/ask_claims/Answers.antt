@@ -1,4 +1,4 @@
--- Where none is claimed each row is a true one; else one row more is, if it has the place.
+-- One row more is a true one, if it has the place.
 use Rattle.std.proofs.Common.{◌≡◌, ◌≢◌, ◌⊎◌, ℕ, ◌+◌, List, ℤ, subst, sym, ◌∙◌, inl, inr, arith}
 use Rattle.std.proofs.lemmas.Bool.{cases_eq}
 use Rattle.sfm_spec.specs.Terms.{SetFunction, times}
@@ -20,13 +20,10 @@ true_more places f x before after place k h others told v lv = at (cases_eq v k)
   at (inl same) = subst (λ w. Goal w (set_at after w)) (sym same) told
   at (inr ne) = subst (Goal v) (sym (others v ne)) (h v (omega (arith, lv, ne)))
 
-pub ask_claim-requires-clause-based : goal.ask_claim-requires-clause-based
-ask_claim-requires-clause-based c = rw (factor_kept _ c.requires.based.factor, c.loop-v.invariant.base) c.requires.based
-
 pub loop-v-preserved : goal.loop-v-preserved
 loop-v-preserved c =
     let kind = c.args.term.now in
-    let factor = factor_kept _ c.requires.based.factor in
+    let factor = factor_kept _ c.requires.based.based.factor in
     let inv = rw factor at c.loop-v.invariant in
     let e = rw factor at c.in_ok-ask_claim.ensures in
     record {
@@ -37,9 +34,5 @@ loop-v-preserved c =
 
 pub returns-clause-told : goal.returns-clause-told
 returns-clause-told c =
-    let inv = rw (factor_kept _ c.requires.based.factor) at c.loop-v.invariant in
+    let inv = rw (factor_kept _ c.requires.based.based.factor) at c.loop-v.invariant in
     λ v lv. inv.told v (omega (arith, lv, c.loop-v-test.false, c.len-v-end.ensures))
-
-pub returns-then-is_empty-clause-told : goal.returns-then-is_empty-clause-told
-returns-then-is_empty-clause-told c = λ v lv bit.
-    c.requires.settled.claims.exact v (rw (← c.requires.based.entries) lv) (c.is_empty.ensures.empty c.if-is_empty.true _)

@@ -43,13 +43,13 @@ pub returns-then-not-are_within-clause-amounts : goal.returns-then-not-are_withi
 returns-then-not-are_within-clause-amounts c = λ t. absurd (false≢true t)
 
 pub product-most-requires-clause-factor : goal.product-most-requires-clause-factor
-product-most-requires-clause-factor c = factor_passed c.args.q c.ranges.q c.requires.factor
+product-most-requires-clause-factor c = factor_passed c.args.q c.requires.factor
 
 pub product-most-requires-clause-given : goal.product-most-requires-clause-given
 product-most-requires-clause-given c = more_passed c.args.w c.requires.weigh.weight.given
 
 pub product-sum-requires-clause-factor : goal.product-sum-requires-clause-factor
-product-sum-requires-clause-factor c = factor_passed c.args.q c.ranges.q c.requires.factor
+product-sum-requires-clause-factor c = factor_passed c.args.q c.requires.factor
 
 pub product-sum-requires-clause-given : goal.product-sum-requires-clause-given
 product-sum-requires-clause-given c = small_passed c.worth-whole.result c.worth-whole.ensures.small

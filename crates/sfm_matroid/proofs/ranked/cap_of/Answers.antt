@@ -7,7 +7,7 @@ use Rattle.sfm_matroid.proofs.Passed.{factor_passed, more_passed}
 use Rattle.sfm_matroid.proofs.ranked.cap_of.Goals as goal
 
 pub product-requires-clause-factor : goal.product-requires-clause-factor
-product-requires-clause-factor c = factor_passed c.args.q c.ranges.q c.requires.factor
+product-requires-clause-factor c = factor_passed c.args.q c.requires.factor
 
 pub product-requires-clause-given : goal.product-requires-clause-given
 product-requires-clause-given c = more_passed c.args.w c.requires.weight.given

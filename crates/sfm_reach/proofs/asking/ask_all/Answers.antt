@@ -9,7 +9,7 @@ use Rattle.sfm_spec.specs.Families.{Meaning, meanings}
 use Rattle.sfm_spec.specs.Walks.{base_at}
 use Rattle.sfm_law.proofs.Lists.{meanings-at, length-meanings}
 use Rattle.sfm_reach.specs.declared.bits.Bits.{Bits}
-use Rattle.sfm_reach.specs.Based.{IsBased}
+use Rattle.sfm_reach.specs.Based.{IsPlacedBase}
 use Rattle.sfm_reach.specs.Reach.{IsReachTable, IsTable, kept_fits, table_at}
 use Rattle.sfm_reach.proofs.Noting.{notes_put, sized_read, sized_set}
 use Rattle.sfm_reach.proofs.Reaching.{table_steps}
@@ -85,7 +85,7 @@ pub ask_kept-requires-clause-based : goal.ask_kept-requires-clause-based
 ask_kept-requires-clause-based g c =
     let t = g.T.Term in
     let fq : FitsSigned w128 c.args.q = c.ranges.q in
-    let B : List ℤ → Type 0 = λ x. IsBased t.places t.value_of t.size_of c.index-terms-i.result c.args.q x in
+    let B : List ℤ → Type 0 = λ x. IsPlacedBase t.places t.value_of t.size_of c.index-terms-i.result c.args.q x in
     simp to_z-of_z (subst B (sym c.row-x.ensures) (c.requires.based.each c.loop-i.i c.loop-i-test.true c.index-terms-i.result c.index-terms-i.is))
 
 pub ask_kept-requires-clause-rows : goal.ask_kept-requires-clause-rows
@@ -95,4 +95,4 @@ ask_kept-requires-clause-rows g c =
     let l = c.loop-i-test.true in
     let term = c.index-terms-i.result in
     let sized = sized_read t.places c.args.terms.now c.loop-i.rows.items i term c.index_mut.result.now c.loop-i.invariant.0 l c.index-terms-i.is c.index_mut.ensures.value in
-    sized ∙ sym (ap length c.row-x.ensures ∙ (c.requires.based.each i l term c.index-terms-i.is).entries)
+    sized ∙ sym (ap length c.row-x.ensures ∙ (c.requires.based.each i l term c.index-terms-i.is).based.entries)

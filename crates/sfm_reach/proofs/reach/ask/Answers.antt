@@ -7,7 +7,7 @@ use Rattle.sfm_reach.proofs.reach.ask.Goals as goal
 use Rattle.sfm_reach.proofs.reach.ask.Goals.{Joined-order, in-Some+else-loop-first-test, in_default}
 
 -- the rows that were asked for, and the note, whether the term names places or not
-begun : (g : given.Over) (c : Joined-order g) → let t = g.T.Term in let at = c.args.at.now in AreRowsOf (t.places at.term.now) (times at.q (t.value_of at.term.now)) at.x.now c.match-order.asked c.match-order.rows × t.fits at.term.now c.match-order.note at.q at.x.now
+begun : (g : given.Over) (c : Joined-order g) → let t = g.T.Term in let term = c.args.at.now.term.now in let base = c.args.at.now.base in AreRowsOf (t.places term) (times base.q (t.value_of term)) base.x.now c.match-order.asked c.match-order.rows × t.fits term c.match-order.note base.q base.x.now
 begun g c = elim c.match-order.branch [
   | in-Some+else-loop-first-test w ↦ rw (w.rows-is, w.asked-is, w.note-is) (w.loop-first.invariant.1, w.loop-first.invariant.2)
   | in_default w ↦ rw (w.rows-is, w.asked-is, w.note-is) ((λ u one. absurd (let none = c.no_bits-asked.ensures u in omega (arith, none, one))), c.requires.noted)
@@ -32,4 +32,4 @@ loop-u-preserved g c =
     (e.rows ∙ inv.0, e.known, (λ v l. ⊎_elim (λ same. rw same (e.told c.loop-u-test.true)) (λ ne. e.kept v (inv.2 v (omega (arith, l, ne)))) (cases_eq v c.loop-u.u)), e.noted)
 
 pub returns-clause-asked : goal.returns-clause-asked
-returns-clause-asked g c = λ u e l. c.loop-u.invariant.1 u (c.loop-u.invariant.2 u (omega (arith, l, c.requires.based.entries, c.loop-u-test.false))) e
+returns-clause-asked g c = λ u e l. c.loop-u.invariant.1 u (c.loop-u.invariant.2 u (omega (arith, l, c.requires.based.based.entries, c.loop-u-test.false))) e

@@ -18,12 +18,12 @@ rows_more places f x asked asked' rows u row l known is others v one = ⊎_elim
 pub contains-requires : goal.contains-requires
 contains-requires g c =
     let few = placed_few 256 (g.T.Term.places c.args.at.now.term.now) c.requires.based.placed in
-    omega (arith, few, c.requires.based.entries, c.if-u-at.false)
+    omega (arith, few, c.requires.based.based.entries, c.if-u-at.false)
 
 pub insert-requires : goal.insert-requires
 insert-requires g c =
     let few = placed_few 256 (g.T.Term.places c.args.at.now.term.now) c.requires.based.placed in
-    omega (arith, few, c.requires.based.entries, c.if-u-at.false)
+    omega (arith, few, c.requires.based.based.entries, c.if-u-at.false)
 
 pub set-requires : goal.set-requires
 set-requires g c = rw (c.in_ok-row.ensures.same, c.requires.rows) c.if-u-at.false

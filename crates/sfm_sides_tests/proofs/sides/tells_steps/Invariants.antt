@@ -1,6 +1,6 @@
 -- the vector is a base that the note fits, and keeps its length
 use Rattle.std.proofs.Common.{◌≡◌, length}
-use Rattle.sfm_sides_tests.specs.Based.{IsBased}
+use Rattle.sfm_law.specs.Based.{IsBased}
 use Rattle.sfm_sides_tests.proofs.sides.tells_steps.Given as goal
 
 abbrev pub invariant-loop-v : goal.invariant-loop-v

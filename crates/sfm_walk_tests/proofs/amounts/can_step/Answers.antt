@@ -6,7 +6,6 @@ use Rattle.sfm_walk_tests.proofs.amounts.can_step.Goals as goal
 
 pub returns-in-Ok : goal.returns-in-Ok
 returns-in-Ok g c = λ yes.
-    let fq : FitsSigned w128 c.args.q = c.ranges.q in
     let fa : FitsSigned w128 c.args.a = c.ranges.a in
     let t = g.T.Term in
     let u = c.in-Some.u in
@@ -14,7 +13,6 @@ returns-in-Ok g c = λ yes.
     let (lu, begins) = rw c.elements.ensures at c.in-Some.ensures in
     let (lv, ends) = rw c.elements-2.ensures at c.in-Some-local_of.ensures in
     let apart : u ≢ v = c.if-u-v.false in
-    let is = simp to_z-of_z at c.in-Ok.ensures.room in
     let within = simp to_z-of_z at (c.is_within.ensures yes) in
     let r = c.requires in (
       u,
@@ -24,5 +22,5 @@ returns-in-Ok g c = λ yes.
       begins,
       ends,
       apart,
-      base_within_room c.args.a r.base (rw r.entries lu) (rw r.entries lv) apart r.low (c.in-Ok.room, is, within),
+      base_within_room c.args.a r.based.base (rw r.based.entries lu) (rw r.based.entries lv) apart r.low (c.in-Ok.room, c.in-Ok.ensures.room, within),
     )

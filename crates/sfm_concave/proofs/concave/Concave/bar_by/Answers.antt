@@ -15,16 +15,16 @@ use Rattle.sfm_concave.proofs.concave.Concave.bar_by.Goals.{After-count_upto-own
 pub count_upto-own-requires-clause-small : goal.count_upto-own-requires-clause-small
 count_upto-own-requires-clause-small c =
     let r = c.requires in
-    let x = c.args.x.now in
+    let x = c.args.at.now.x.now in
     let few : length x ≤ 256 = omega (arith, c.args.self.now.few, r.entries) in
     ranked_small x c.args.ranking.sorted.now c.args.ranking.sums.now r.ranked few r.small
 
 -- the entry of u is a number of 128 bits
-entry : (c : After-count_upto-own) → FitsSigned w128 (get_or c.args.x.now c.args.u (pos 0))
-entry c = entry_fits _ (All-get_or IsEntry c.args.x.now c.args.u (pos 0) c.requires.from c.requires.small)
+entry : (c : After-count_upto-own) → FitsSigned w128 (get_or c.args.at.now.x.now c.args.u (pos 0))
+entry c = entry_fits _ (All-get_or IsEntry c.args.at.now.x.now c.args.u (pos 0) c.requires.from c.requires.small)
 
 -- what the search found
-own : (c : After-count_upto-own) → IsOwnCut c.args.q c.args.self.now.values c.args.x.now c.args.ranking.sorted.now c.args.ranking.sums.now c.args.u c.count_upto-own.result
+own : (c : After-count_upto-own) → IsOwnCut c.args.at.now.q c.args.self.now.values c.args.at.now.x.now c.args.ranking.sorted.now c.args.ranking.sums.now c.args.u c.count_upto-own.result
 own c =
     let r = c.requires in
     let s = c.args.self.now in
@@ -39,39 +39,26 @@ own c =
 pub overflow_sub-own : goal.overflow_sub-own
 overflow_sub-own c = concave_own_some (own (goal.at.overflow_sub-own c).After-count_upto-own)
 
-pub is_tight-requires-clause-place : goal.is_tight-requires-clause-place
-is_tight-requires-clause-place c = let in_range = c.count_upto-own.ensures.in_range in omega (arith, in_range)
-
-pub last_tight-requires-clause-place : goal.last_tight-requires-clause-place
-last_tight-requires-clause-place c = let in_range = c.count_upto-own.ensures.in_range in omega (arith, in_range)
-
 pub returns-then-is_tight : goal.returns-then-is_tight
 returns-then-is_tight c =
     let after = (goal.at.returns-then-is_tight c).After-count_upto-own in
-    let fq : FitsSigned w128 c.args.q = c.ranges.q in
     let fu = entry after in
-    let tight = simp to_z-of_z at (c.if-is_tight.ensures.0 refl) in
-    simp to_z-of_z (concave_own_bar (own after) tight)
+    simp to_z-of_z (concave_own_bar (own after) (c.if-is_tight.ensures.0 refl))
 
 pub returns-in_err-i : goal.returns-in_err-i
 returns-in_err-i c =
-    let fq : FitsSigned w128 c.args.q = c.ranges.q in
-    let tight = simp to_z-of_z at c.is_tight.ensures in
-    let none = simp to_z-of_z at c.in_err-i.ensures in
-    rw c.from_residual.ensures (concave_none_bar (own (goal.at.returns-in_err-i c).After-count_upto-own) (λ t. both_ways c.is_tight.result c.if-is_tight.false (tight.1 t)) none)
+    rw c.from_residual.ensures (concave_none_bar (own (goal.at.returns-in_err-i c).After-count_upto-own) (λ t. both_ways c.is_tight.result c.if-is_tight.false (c.is_tight.ensures.1 t)) c.in_err-i.ensures)
 
 pub returns : goal.returns
 returns c =
     let r = c.requires in
     let y = c.args.ranking.sorted.now in
     let cut = own (goal.at.returns c).After-count_upto-own in
-    let fq : FitsSigned w128 c.args.q = c.ranges.q in
-    let few : length c.args.x.now ≤ 256 = omega (arith, c.args.self.now.few, r.entries) in
-    let small : All IsEntry y = ranked_small c.args.x.now y c.args.ranking.sums.now r.ranked few r.small in
-    let tight = simp to_z-of_z at c.is_tight.ensures in
+    let few : length c.args.at.now.x.now ≤ 256 = omega (arith, c.args.self.now.few, r.entries) in
+    let small : All IsEntry y = ranked_small c.args.at.now.x.now y c.args.ranking.sums.now r.ranked few r.small in
     let i = c.in_ok-i.i in
-    let is = simp to_z-of_z at c.in_ok-i.ensures in
+    let is = c.in_ok-i.ensures in
     let in_range = cut.cut.in_range in
     let before = is.below in
     let fd : FitsSigned w128 (get_or y (i - 1) (pos 0)) = entry_fits _ (All-get_or IsEntry y (i - 1) (pos 0) (omega (arith, in_range, before)) small) in
-    simp to_z-of_z (concave_tight_bar cut (λ t. both_ways c.is_tight.result c.if-is_tight.false (tight.1 t)) i is)
+    simp to_z-of_z (concave_tight_bar cut (λ t. both_ways c.is_tight.result c.if-is_tight.false (c.is_tight.ensures.1 t)) i is)

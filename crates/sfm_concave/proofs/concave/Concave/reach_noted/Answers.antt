@@ -7,7 +7,5 @@ use Rattle.sfm_concave.proofs.concave.Concave.reach_noted.Goals as goal
 pub returns : goal.returns
 returns c =
     let r = c.requires in
-    let fq : FitsSigned w128 c.args.q = c.ranges.q in
-    let here : IsConcaveBase c.args.q c.args.self.now.values c.args.x.now = concave_at _ r.factor.low c.args.self.now.counted r.entries c.args.self.now.falling r.base in
-    let bar = simp to_z-of_z at c.bar.ensures in
-    reach_by_bar here c.args.u r.from c.bar.result c.put_others_over.new.to (c.put_others_over.ensures.places ∙ r.room_for_answer) bar c.put_others_over.ensures.over
+    let here : IsConcaveBase c.args.at.now.q c.args.self.now.values c.args.at.now.x.now = concave_at _ r.factor.low c.args.self.now.counted r.entries c.args.self.now.falling r.base in
+    reach_by_bar here c.args.u r.from c.bar.result c.put_others_over.new.to (c.put_others_over.ensures.places ∙ r.room_for_answer) c.bar.ensures c.put_others_over.ensures.over

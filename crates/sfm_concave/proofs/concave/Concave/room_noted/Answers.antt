@@ -7,8 +7,6 @@ use Rattle.sfm_concave.proofs.concave.Concave.room_noted.Goals as goal
 pub returns : goal.returns
 returns c =
     let r = c.requires in
-    let fq : FitsSigned w128 c.args.q = c.ranges.q in
     let fl : FitsSigned w128 c.least_slack.result = record { sfits = c.least_slack.type_inv } in
-    let here : IsConcaveBase c.args.q c.args.self.now.values c.args.x.now = concave_at _ r.factor.low c.args.self.now.counted r.entries c.args.self.now.falling r.base in
-    let is = simp to_z-of_z at c.least_slack.ensures in
-    simp to_z-of_z (concave-capacity here c.args.u c.args.v r.from r.onto r.apart _ is)
+    let here : IsConcaveBase c.args.at.now.q c.args.self.now.values c.args.at.now.x.now = concave_at _ r.factor.low c.args.self.now.counted r.entries c.args.self.now.falling r.base in
+    simp to_z-of_z (concave-capacity here c.args.u c.args.v r.pair.from r.pair.onto r.pair.apart _ c.least_slack.ensures)

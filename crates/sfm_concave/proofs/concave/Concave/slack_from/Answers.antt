@@ -1,5 +1,5 @@
 use Rattle.std.proofs.Common.{◌-◌, ◌≤◌, ◌-ℤ◌, ◌∙◌, length, ap, arith, rules, FitsSigned}
-use Rattle.std.proofs.lemmas.Int.{to_z-of_z}
+use Rattle.std.proofs.lemmas.Int.{ints, to_z-of_z}
 use mir.Syntax.{w128}
 use Rattle.sfm_law.proofs.Fits.{difference_fits}
 use Rattle.sfm_concave.specs.ConcaveLaws.{scaled}
@@ -10,15 +10,15 @@ pub scaled-requires-clause-count : goal.scaled-requires-clause-count
 scaled-requires-clause-count c =
     let r = c.requires in
     let s = c.args.self.now in
-    let few : length c.args.x.now ≤ 256 = omega (arith, s.few, r.entries) in
-    let sized = ranked_sized c.args.x.now c.args.ranking.sorted.now c.args.ranking.sums.now r.ranked few r.small in
+    let few : length c.args.at.now.x.now ≤ 256 = omega (arith, s.few, r.entries) in
+    let sized = ranked_sized c.args.at.now.x.now c.args.ranking.sorted.now c.args.ranking.sums.now r.ranked few r.small in
     omega (arith, sized, s.counted, r.entries, c.share_from-rest.ensures.count)
 
 pub returns : goal.returns
 returns c =
-    let h = scaled c.args.q c.args.self.now.values in
+    let h = scaled c.args.at.now.q c.args.self.now.values in
     let rest = c.share_from-rest in
-    let fq : FitsSigned w128 c.args.q = c.ranges.q in
+    let fq : FitsSigned w128 c.args.at.now.q = omega (arith, ints, c.requires.factor) in
     let fn : FitsSigned w128 c.scaled.result = record { sfits = c.scaled.type_inv } in
     let fr : FitsSigned w128 rest.result.sum = search rules in
     let fd = difference_fits _ _ c.scaled.ensures.small rest.ensures.sum.1 in

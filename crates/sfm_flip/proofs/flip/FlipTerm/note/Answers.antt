@@ -7,6 +7,6 @@ use Rattle.sfm_flip.proofs.flip.FlipTerm.note.Goals as goal
 pub note_at-requires : goal.note_at-requires
 note_at-requires c =
     let s = c.args.self.now in
-    let r = c.requires in
+    let at = c.args.at.now in
     let v : c.self.inside.term ≡ s = c.self.view_is in
-    rw (factor_kept _ r.factor, c.in_ok-base.ensures, v) (base_of s c.args.q r.factor c.args.x.now r.entries (rw v at c.self.invariant) r.small r.base)
+    rw (factor_kept _ c.requires.factor, c.in_ok-base.ensures, v) (base_of s at.q at.x.now c.requires)

@@ -10,14 +10,16 @@ use Rattle.sfm_flip.proofs.flip.FlipTerm.reach_by.Goals as goal
 pub tell_column-requires-clause-based : goal.tell_column-requires-clause-based
 tell_column-requires-clause-based c =
     let s = c.args.self.now in
+    let at = c.args.at.now in
     let r = c.requires in
     let v : c.self.inside.term ≡ s = c.self.view_is in
-    rw (factor_kept _ r.factor, r.noted.0, v) (base_of s c.args.q r.factor c.args._x.now r.entries (rw v at c.self.invariant) r.small r.base)
+    rw (factor_kept _ r.based.factor, r.noted.0, v) (base_of s at.q at.x.now r.based)
 
 pub returns-clause-reached : goal.returns-clause-reached
 returns-clause-reached c =
     let s = c.args.self.now in
+    let at = c.args.at.now in
     let r = c.requires in
     let v : c.self.inside.term ≡ s = c.self.view_is in
-    let column = rw (factor_kept _ r.factor, r.noted.0, v) at c.tell_column.ensures.column in
-    on_ok_weaker c.tell_column.result (reach_is _ (kind_value s) (kind-family s) (kind-submodular s) c.args.q r.factor.low c.args._x.now c.args.u c.tell_column.new.to r.entries r.from (c.tell_column.ensures.places ∙ r.room_for_answer)) column
+    let column = rw (factor_kept _ r.based.factor, r.noted.0, v) at c.tell_column.ensures.column in
+    on_ok_weaker c.tell_column.result (reach_is _ (kind_value s) (kind-family s) (kind-submodular s) at.q r.based.factor.low at.x.now c.args.lead.now.from c.tell_column.new.to r.based.entries r.from (c.tell_column.ensures.places ∙ r.room_for_answer)) column

@@ -2,24 +2,27 @@
 use Rattle.std.proofs.Common.{◌≡◌, ◌∙◌}
 use Rattle.std.proofs.lemmas.Result.{IfOk-weaker}
 use Rattle.sfm_kind.proofs.Passed.{factor_kept}
-use Rattle.sfm_flip.proofs.Turning.{negated-small}
-use Rattle.sfm_flip.proofs.Bases.{base_from, room_to}
+use Rattle.sfm_flip.proofs.Bases.{based_from, pair_from, room_to}
 use Rattle.sfm_flip.proofs.flip.FlipTerm.room_by.Goals as goal
 
-pub room_by-requires-clause-small : goal.room_by-requires-clause-small
-room_by-requires-clause-small c = rw (c.as_slice.ensures ∙ c.requires.noted.0) (negated-small _ c.args._x.now c.requires.small)
-
-pub room_by-requires-clause-base : goal.room_by-requires-clause-base
-room_by-requires-clause-base c =
-    let s = c.args.self.now in
+pub room_by-requires-clause-based : goal.room_by-requires-clause-based
+room_by-requires-clause-based c =
+    let at = c.args.at.now in
     let r = c.requires in
-    let v : c.self.inside.term ≡ s = c.self.view_is in
-    rw (factor_kept _ r.factor, c.as_slice.ensures ∙ r.noted.0, v) (base_from s c.args.q r.factor c.args._x.now r.entries r.base)
+    let v : c.self.inside.term ≡ c.args.self.now = c.self.view_is in
+    rw (factor_kept _ r.based.factor, c.as_slice-x.ensures ∙ r.noted.0, v) (based_from c.args.self.now at.q at.x.now r.based)
+
+pub room_by-requires-clause-pair : goal.room_by-requires-clause-pair
+room_by-requires-clause-pair c =
+    let at = c.args.at.now in
+    let r = c.requires in
+    rw (c.as_slice-x.ensures ∙ r.noted.0) (pair_from c.args.self.now at.q at.x.now r.based c.args.u c.args.v r.pair)
 
 pub returns-clause-room : goal.returns-clause-room
 returns-clause-room c =
     let s = c.args.self.now in
+    let at = c.args.at.now in
     let r = c.requires in
     let v : c.self.inside.term ≡ s = c.self.view_is in
-    let is = rw (factor_kept _ r.factor, c.as_slice.ensures ∙ r.noted.0, v) at c.room_by.ensures.room in
-    IfOk-weaker c.room_by.result _ _ (room_to s c.args.q r.factor c.args._x.now r.entries c.args.u c.args.v r.from r.onto r.apart) is
+    let is = rw (factor_kept _ r.based.factor, c.as_slice-x.ensures ∙ r.noted.0, v) at c.room_by.ensures.room in
+    IfOk-weaker c.room_by.result _ _ (room_to s at.q at.x.now r.based c.args.u c.args.v r.pair) is

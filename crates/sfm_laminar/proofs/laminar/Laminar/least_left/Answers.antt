@@ -1,4 +1,4 @@
-use Rattle.std.proofs.Common.{◌≡◌, ◌∙◌, arith, FitsSigned, to_z, of_z, ℤ}
+use Rattle.std.proofs.Common.{◌≡◌, ◌∙◌, arith, FitsSigned, to_z}
 use Rattle.std.proofs.lemmas.Bool.{both_ways}
 use Rattle.std.proofs.lemmas.Int.{to_z-of_z}
 use mir.Syntax.{w128}
@@ -9,19 +9,14 @@ use Rattle.sfm_laminar.proofs.laminar.Laminar.least_left.Goals.{then-not-has, el
 
 pub loop-i-init : goal.loop-i-init
 loop-i-init c =
-    let fq : FitsSigned w128 c.args.q = c.ranges.q in
     let fl : FitsSigned w128 c.least_entry-least.result = record { sfits = c.least_entry-least.type_inv } in
-    let entry = simp to_z-of_z at c.least_entry-least.ensures in
-    simp to_z-of_z (least_begin _ _ _ _ _ _ _ _ entry)
-
-pub slack_by-requires-clause-noted : goal.slack_by-requires-clause-noted
-slack_by-requires-clause-noted c = simp (to_z-of_z w128 c.args.q c.ranges.q) c.requires.noted
+    simp to_z-of_z (least_begin _ _ _ _ _ _ _ _ c.least_entry-least.ensures)
 
 pub loop-i-preserved : goal.loop-i-preserved
 loop-i-preserved c =
     let s = c.args.self.now in
-    let q : ℤ = to_z w128 (of_z w128 c.args.q) in
-    let x = c.args.x.now in
+    let q = c.args.at.now.q in
+    let x = c.args.at.now.x.now in
     let u = c.args.u in
     let v = c.args.v in
     let es = c.holders-holders.result.now in
@@ -40,6 +35,4 @@ loop-i-preserved c =
 
 pub returns : goal.returns
 returns c =
-    let fq : FitsSigned w128 c.args.q = c.ranges.q in
-    let inv = simp to_z-of_z at c.loop-i.invariant in
-    least_all _ _ _ _ _ _ _ _ _ inv (omega (arith, c.loop-i-test.false)) c.holders-holders.ensures.exact
+    least_all _ _ _ _ _ _ _ _ _ c.loop-i.invariant (omega (arith, c.loop-i-test.false)) c.holders-holders.ensures.exact

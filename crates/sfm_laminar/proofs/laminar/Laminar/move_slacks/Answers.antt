@@ -19,18 +19,10 @@ loop-i-preserved c =
     let s = c.args.self.now in
     let old = c.args.slacks.now in
     let i = c.loop-i.i in
-    let a = c.args.a in
     let lt : i < length old = omega (arith, c.loop-i-test.true, c.loop-i.invariant.places) in
     let fh : FitsSigned w128 (get_or c.loop-i.slacks i (pos 0)) = bound_fits _ (still_small old c.loop-i.slacks i lt c.loop-i.invariant.rest c.requires.small) in
-    let fa : FitsSigned w128 a = c.ranges.a in
     let fr : FitsSigned w128 c.moved_slack.result = record { sfits = c.moved_slack.type_inv } in
-    let inv = simp to_z-of_z at c.loop-i.invariant in
+    let inv = c.loop-i.invariant in
     let e = rw (inv.rest i (omega arith)) at (simp to_z-of_z at c.moved_slack.ensures) in
-    let to : ℕ → ℤ = λ i. (get_or old i (pos 0) -ℤ share_of (length s.places) (group_at s.groups i) c.args.u a) +ℤ share_of (length s.places) (group_at s.groups i) c.args.v a in
+    let to : ℕ → ℤ = λ i. (get_or old i (pos 0) -ℤ share_of (length s.places) (group_at s.groups i) c.args.swap.now.u c.args.swap.now.a) +ℤ share_of (length s.places) (group_at s.groups i) c.args.swap.now.v c.args.swap.now.a in
     simp to_z-of_z (written_more to old c.loop-i.slacks i c.moved_slack.result inv.places lt inv.done inv.rest e)
-
-pub returns-clause-moved : goal.returns-clause-moved
-returns-clause-moved c =
-    let fa : FitsSigned w128 c.args.a = c.ranges.a in
-    let inv = simp to_z-of_z at c.loop-i.invariant in
-    λ i lt. inv.done i (omega (arith, lt, c.loop-i-test.false))

@@ -7,7 +7,7 @@ pub returns : goal.returns
 returns c =
     let r = c.requires in
     let fs : FitsSigned w128 c.args.slack = c.ranges.slack in
-    let fa : FitsSigned w128 c.args.a = c.ranges.a in
+    let fa : FitsSigned w128 c.args.swap.now.a = omega (arith, ints, r.low, r.high) in
     let fl : FitsSigned w128 c.share_in.result = record { sfits = c.share_in.type_inv } in
     let fm : FitsSigned w128 c.share_in-2.result = record { sfits = c.share_in-2.type_inv } in
     let less = simp to_z-of_z at c.share_in.ensures in

@@ -1,5 +1,5 @@
 use Rattle.std.proofs.Common.{◌≡◌, ◌∙◌, ℤ, pos, length, arith, FitsSigned}
-use Rattle.std.proofs.lemmas.Int.{to_z-of_z}
+use Rattle.std.proofs.lemmas.Int.{ints, to_z-of_z}
 use mir.Syntax.{w128}
 use Rattle.sfm_laminar.specs.Crossing.{group_at}
 use Rattle.sfm_laminar.specs.Rooms.{slack_of}
@@ -9,16 +9,8 @@ use Rattle.sfm_laminar.proofs.laminar.Laminar.slacks_of.Goals as goal
 pub loop-i-preserved : goal.loop-i-preserved
 loop-i-preserved c =
     let s = c.args.self.now in
-    let fq : FitsSigned w128 c.args.q = c.ranges.q in
+    let fq : FitsSigned w128 c.args.at.now.q = omega (arith, ints, c.requires.factor) in
     let fs : FitsSigned w128 c.slack.result = record { sfits = c.slack.type_inv } in
-    let inv = simp to_z-of_z at c.loop-i.invariant in
+    let inv = c.loop-i.invariant in
     let e = simp to_z-of_z at c.slack.ensures in
-    rw c.in_ok-push.ensures.items (simp to_z-of_z (made_more ℤ (pos 0) (λ p. slack_of c.args.q s.w c.args.x.now (group_at s.groups p)) c.loop-i.i c.loop-i.slacks.items c.slack.result inv e))
-
-pub returns : goal.returns
-returns c =
-    let s = c.args.self.now in
-    let fq : FitsSigned w128 c.args.q = c.ranges.q in
-    let inv = simp to_z-of_z at c.loop-i.invariant in
-    let n : c.loop-i.i ≡ length s.groups = omega (arith, c.loop-i-test.false, c.loop-i.auto.i-end) in
-    record { places = inv.places ∙ n; each = λ p lt. inv.each p (omega (arith, lt, n)) }
+    rw c.in_ok-push.ensures.items (simp to_z-of_z (made_more ℤ (pos 0) (λ p. slack_of c.args.at.now.q s.w c.args.at.now.x.now (group_at s.groups p)) c.loop-i.i c.loop-i.slacks.items c.slack.result inv e))

@@ -24,11 +24,11 @@ returns-clause-told c =
     let is = base_by_entries s c.args.q c.above-m.result c.above-m.ensures.below c.requires.factor c.args.x.now c.requires.entries in
     let all = slots_tell s c.above-m.result c.above-m.ensures.below (c.args.q *ℤ s.w) (product_low c.args.q s.w c.requires.factor s.low) c.args.x.now c.requires.entries (c.adds_up.ensures.amounts c.if-not-adds_up.false) in
     let told = rw s.based at c.adds_up.ensures.told in
-    let test = rw (c.in_ok-demand.ensures, cap_passed c.args.q s.w c.ranges.q c.requires.factor s.given c.cap_of.result c.cap_of.ensures.value) at c.in_ok-split.ensures in
+    let test = rw (c.in_ok-demand.ensures, cap_passed c.args.q s.w c.requires.factor s.given c.cap_of.result c.cap_of.ensures.value) at c.in_ok-split.ensures in
     rw c.is_some.ensures (even_and _ _ _ _ _ _ c.ranges.q s.given is _ told c.if-not-adds_up.false (is_some c.in_ok-split.split) _ (split_tells _ c.in_ok-split.split test) all)
 
 pub adds_up-requires : goal.adds_up-requires
-adds_up-requires c = let s = c.args.self.now in can_add _ _ _ _ _ c.ranges.q c.requires.factor s.given s.low s.few (transversal_kept s) c.requires.entries c.requires.small
+adds_up-requires c = let s = c.args.self.now in can_add _ _ _ _ _ c.requires.factor s.given s.low s.few (transversal_kept s) c.requires.entries c.requires.small
 
 pub cap_of-requires : goal.cap_of-requires
-cap_of-requires c = let s = c.args.self.now in factors_passed c.args.q s.w c.ranges.q c.requires.factor s.given s.low
+cap_of-requires c = let s = c.args.self.now in factors_passed c.args.q s.w c.requires.factor s.given s.low

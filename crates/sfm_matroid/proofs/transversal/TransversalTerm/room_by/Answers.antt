@@ -9,49 +9,50 @@ use Rattle.sfm_matroid.proofs.transversal.TransversalTerm.room_by.Goals.{After-p
 use Rattle.sfm_matroid.proofs.transversal.TransversalTerm.room_by.Goals as goal
 
 -- what u may get of v
-most_is : (c : After-pull_of-pull) → c.pull_of-pull.result.limit ≡ int_min (get_or c.args.x.now c.args.v (pos 0)) ((c.args.q *ℤ c.args.self.now.w) -ℤ get_or c.args.x.now c.args.u (pos 0))
-most_is c = let s = c.args.self.now in rw (cap_passed c.args.q s.w c.ranges.q c.requires.factor s.given c.cap_of-cap.result c.cap_of-cap.ensures.value) at c.pull_of-pull.ensures.limit
+most_is : (c : After-pull_of-pull) → c.pull_of-pull.result.limit ≡ int_min (get_or c.args.at.now.x.now c.args.v (pos 0)) ((c.args.at.now.q *ℤ c.args.self.now.w) -ℤ get_or c.args.at.now.x.now c.args.u (pos 0))
+most_is c = let s = c.args.self.now in rw (cap_passed c.args.at.now.q s.w c.requires.based.factor s.given c.cap_of-cap.result c.cap_of-cap.ensures.value) at c.pull_of-pull.ensures.limit
 
 pub cap_of-cap-requires : goal.cap_of-cap-requires
-cap_of-cap-requires c = let s = c.args.self.now in factors_passed c.args.q s.w c.ranges.q c.requires.factor s.given s.low
+cap_of-cap-requires c = let s = c.args.self.now in factors_passed c.args.at.now.q s.w c.requires.based.factor s.given s.low
 
 pub pull_of-pull-requires-clause-capped : goal.pull_of-pull-requires-clause-capped
 pull_of-pull-requires-clause-capped c =
     let r = c.requires in
+    let b = r.based in
     let s = c.args.self.now in
-    rw (cap_passed c.args.q s.w c.ranges.q r.factor s.given c.cap_of-cap.result c.cap_of-cap.ensures.value) (held_base s c.args.q r.noted.m r.noted.below r.factor c.args.x.now r.entries r.base).capped
-
-pub raise_spare-requires-clause-raise : goal.raise_spare-requires-clause-raise
-raise_spare-requires-clause-raise c = let p = c.pull_of-pull.ensures in rw (p.u, p.v) p.raise
-
-pub raise_spare-requires-clause-spare : goal.raise_spare-requires-clause-spare
-raise_spare-requires-clause-spare c = c.requires.noted.spare
+    let at = c.args.at.now in
+    rw (cap_passed at.q s.w b.factor s.given c.cap_of-cap.result c.cap_of-cap.ensures.value) (held_base s at.q r.noted.m r.noted.below b.factor at.x.now b.entries b.base).capped
 
 pub raise_spare-requires-clause-held : goal.raise_spare-requires-clause-held
 raise_spare-requires-clause-held c =
     let r = c.requires in
+    let b = r.based in
     let n = r.noted in
-    rw (n.split, c.deref.ensures.value, n.holds, c.pull_of-pull.ensures.v) (slots_hold c.args.self.now c.args.q n.m n.below r.factor c.args.x.now r.entries r.base c.args.u c.args.v r.from r.onto r.apart)
+    let pair = r.pair in
+    let at = c.args.at.now in
+    rw (n.split, c.deref.ensures.value, n.holds, c.pull_of-pull.ensures.v) (slots_hold c.args.self.now at.q n.m n.below b.factor at.x.now b.entries b.base c.args.u c.args.v pair.from pair.onto pair.apart)
 
 pub returns-clause-room : goal.returns-clause-room
 returns-clause-room c =
     let r = c.requires in
+    let b = r.based in
     let n = r.noted in
+    let pair = r.pair in
     let s = c.args.self.now in
+    let at = c.args.at.now in
     let p = c.pull_of-pull.ensures in
     let fm : FitsSigned w128 c.in_ok-most.most = search rules in
     let most = rw (n.split, c.deref.ensures.value, n.holds, p.u, p.v) at c.in_ok-most.ensures.most in
-    simp to_z-of_z (grown_capacity (length s.places) c.args.q s.w s.entries n.m n.below s.same_count (product_low c.args.q s.w r.factor s.low) c.args.x.now r.entries r.base c.args.u c.args.v r.from r.onto r.apart _ _ (most_is (goal.at.returns-clause-room c).After-pull_of-pull) most)
-
-pub returns-clause-noted : goal.returns-clause-noted
-returns-clause-noted c =
-    let n = c.requires.noted in
-    record { m = n.m; below = n.below; holds = n.holds; split = ap (λ k. k.demand) c.raise_spare.ensures.kept ∙ n.split; spare = c.in_ok-most.ensures.spare }
+    simp to_z-of_z (grown_capacity (length s.places) at.q s.w s.entries n.m n.below s.same_count (product_low at.q s.w b.factor s.low) at.x.now b.entries b.base c.args.u c.args.v pair.from pair.onto pair.apart _ _ (most_is (goal.at.returns-clause-room c).After-pull_of-pull) most)
 
 pub returns-then-pull-eq0-clause-room : goal.returns-then-pull-eq0-clause-room
 returns-then-pull-eq0-clause-room c =
     let r = c.requires in
+    let b = r.based in
+    let n = r.noted in
+    let pair = r.pair in
     let s = c.args.self.now in
+    let at = c.args.at.now in
     let fl : FitsSigned w128 c.pull_of-pull.result.limit = search rules in
     let none = simp to_z-of_z at (ap (to_z w128) c.if-pull-eq0.true) in
-    no_capacity (length s.places) c.args.q s.w s.entries r.noted.m r.noted.below s.same_count (product_low c.args.q s.w r.factor s.low) c.args.x.now r.entries r.base c.args.u c.args.v r.from r.onto r.apart (sym (most_is (goal.at.returns-then-pull-eq0-clause-room c).After-pull_of-pull) ∙ none)
+    no_capacity (length s.places) at.q s.w s.entries n.m n.below s.same_count (product_low at.q s.w b.factor s.low) at.x.now b.entries b.base c.args.u c.args.v pair.from pair.onto pair.apart (sym (most_is (goal.at.returns-then-pull-eq0-clause-room c).After-pull_of-pull) ∙ none)

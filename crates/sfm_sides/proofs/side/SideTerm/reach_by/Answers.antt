@@ -1,15 +1,8 @@
--- The reach on a side by what is kept is that of its term, at the factor as it is passed on.
-use Rattle.sfm_kind.proofs.Passed.{factor_kept}
+-- The place that is asked leads at its term to the same one.
 use Rattle.sfm_sides.proofs.side.SideTerm.reach_by.Goals as goal
 
-pub reach_by-requires : goal.reach_by-requires
-reach_by-requires c = rw (factor_kept _ c.requires.factor) (rw (c.in-Left.is, c.in-Left-note.is) at c.requires)
+pub reach_by-requires-clause-leads : goal.reach_by-requires-clause-leads
+reach_by-requires-clause-leads c = rw c.in-Left.is at c.requires.leads
 
-pub returns-in-Left-note : goal.returns-in-Left-note
-returns-in-Left-note c = rw c.in-Left.is (rw (factor_kept _ c.requires.factor) at c.reach_by.ensures)
-
-pub reach_by-requires-in-Right-note : goal.reach_by-requires-in-Right-note
-reach_by-requires-in-Right-note c = rw (factor_kept _ c.requires.factor) (rw (c.in-Right.is, c.in-Right-note.is) at c.requires)
-
-pub returns-in-Right-note : goal.returns-in-Right-note
-returns-in-Right-note c = rw c.in-Right.is (rw (factor_kept _ c.requires.factor) at c.reach_by-in-Right-note.ensures)
+pub reach_by-requires-in-Right-note-clause-leads : goal.reach_by-requires-in-Right-note-clause-leads
+reach_by-requires-in-Right-note-clause-leads c = rw c.in-Right.is at c.requires.leads

@@ -1,17 +1,11 @@
--- Terms at bases of theirs, within the bounds.
+-- Terms at bases of theirs, within the bounds, and what is asked of them there.
 use Rattle.std.specs.Prelude.{◌≡◌, ◌≢◌, ℕ, ◌<◌, ◌^◌, List, length, ℤ, pos, ◌≤ℤ◌}
 use Rattle.std.specs.List.{All}
 use Rattle.sfm_spec.specs.Bounds.{IsEntry, IsFactor}
 use Rattle.sfm_spec.specs.Terms.{SetFunction, times, IsBase}
+use Rattle.sfm_law.specs.Room.{IsWithinRoom}
 
--- q is a factor, x has a small number for each place of the term, and the term is not too large to be asked for bases
-pub record IsFit {X : Type 0} (places : X → List ℕ) (size : X → ℤ) (term : X) (q : ℤ) (x : List ℤ) : Type 0 where
-  pub factor : IsFactor q
-  pub entries : length x ≡ length (places term)
-  pub bounded : size term ≤ℤ pos (10 ^ 18)
-  pub small : All IsEntry x
-
--- besides, x is a base of q times the term
+-- x is a base of q times the term, and all numbers are within the bounds
 pub record IsBased {X : Type 0} (places : X → List ℕ) (value : X → SetFunction) (size : X → ℤ) (term : X) (q : ℤ) (x : List ℤ) : Type 0 where
   pub factor : IsFactor q
   pub entries : length x ≡ length (places term)
@@ -24,3 +18,12 @@ pub record IsPair (u v : ℕ) (x : List ℤ) : Type 0 where
   pub apart : u ≢ v
   pub from : u < length x
   pub onto : v < length x
+
+-- u can be raised and v lowered by a
+pub record CanSwap (f : SetFunction) (x : List ℤ) (u v : ℕ) (a : ℤ) : Type 0 where
+  pub apart : u ≢ v
+  pub from : u < length x
+  pub onto : v < length x
+  pub low : pos 0 ≤ℤ a
+  pub high : a ≤ℤ pos (10 ^ 30)
+  pub room : IsWithinRoom f x u v a
