@@ -69,7 +69,6 @@ impl Side {
     }
 
     /// Adds to what is left of a total of the side.
-    #[inline(always)]
     fn put(self, left: &mut Lefts, k: usize, a: i128)
         requires { CanPut (of_side self left.old.lacks.items left.old.rooms.items) k a }
         ensures lacks { left.new.lacks.items ≡ lacks_put self left.old.lacks.items k a }
@@ -129,7 +128,6 @@ struct Turn<'a> {
 
 /// Puts one total of a side in place of the one before, and lowers the amounts on its cells until they are no more than it. The
 /// totals are gone through in order.
-#[inline(always)]
 fn turn_total(cells: &Cells, turn: &Turn, k: usize, left: &mut Lefts, y: &mut [i128])
     requires place { k < length turn.now.totals.now }
     requires same { length turn.now.before.now ≡ length turn.now.totals.now }
@@ -150,9 +148,6 @@ fn turn_total(cells: &Cells, turn: &Turn, k: usize, left: &mut Lefts, y: &mut [i
 {
     let after = turn.totals[k];
     let before = turn.before[k];
-    if after == before {
-        return;
-    }
     turn.side.put(left, k, after - before);
     lower_along(cells, turn.side, k, left, y);
 }
@@ -180,7 +175,9 @@ pub(crate) fn turn_slots(
         before,
     };
     for s in 0..capacities.len() {
-        turn_total(cells, &turn, s, left, y);
+        if capacities[s] != before[s] {
+            turn_total(cells, &turn, s, left, y);
+        }
     }
 }
 
@@ -210,7 +207,9 @@ pub(crate) fn turn_demands(
     };
     left.lacking.clear();
     for i in 0..demands.len() {
-        turn_total(cells, &turn, i, left, y);
+        if demands[i] != before[i] {
+            turn_total(cells, &turn, i, left, y);
+        }
         if left.lacks[i] > 0 {
             left.lacking.push(i)?;
         }

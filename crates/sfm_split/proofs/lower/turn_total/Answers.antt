@@ -1,10 +1,10 @@
-use Rattle.std.proofs.Common.{◌≡◌, List, get_or, ℤ, pos, ◌+ℤ◌, ◌-ℤ◌, to_z, ap, ◌∙◌, rules, FitsSigned, length-set, get_or-set_other}
+use Rattle.std.proofs.Common.{◌≡◌, List, get_or, ℤ, pos, ◌+ℤ◌, ◌-ℤ◌, ◌∙◌, rules, FitsSigned, length-set, get_or-set_other}
 use Rattle.std.proofs.lemmas.Int.{to_z-of_z}
 use mir.Syntax.{w128}
 use Rattle.sfm_split.specs.Splits.{amount_at}
 use Rattle.sfm_split.specs.Sides.{of_side}
 use Rattle.sfm_split.specs.Lowers.{StandsBy, turned, lacks_put, rooms_put}
-use Rattle.sfm_split.proofs.Lowering.{IsTurning, turning, turned_same, side_put}
+use Rattle.sfm_split.proofs.Lowering.{IsTurning, turning, side_put}
 use Rattle.sfm_split.proofs.lower.turn_total.Goals.{Start, After-put}
 use Rattle.sfm_split.proofs.lower.turn_total.Goals as goal
 
@@ -16,15 +16,6 @@ turns c others h =
     let cells = c.args.cells.now in
     let left = c.args.left.now in
     turning turn.side turn.totals.now turn.before.now others cells.whos.items cells.slots.items c.args.y.now left.lacks.items left.rooms.items c.args.k c.requires.same h c.requires.place c.requires.bounded
-
-pub returns-then-after-before-clause-stands : goal.returns-then-after-before-clause-stands
-returns-then-after-before-clause-stands c = λ others h.
-    let turn = c.args.turn.now in
-    let cells = c.args.cells.now in
-    let left = c.args.left.now in
-    let ft : FitsSigned w128 (get_or turn.totals.now c.args.k (pos 0)) = search rules in
-    let fb : FitsSigned w128 (get_or turn.before.now c.args.k (pos 0)) = search rules in
-    turned_same turn.side turn.totals.now turn.before.now others cells.whos.items cells.slots.items c.args.y.now left.lacks.items left.rooms.items c.args.k c.requires.same h (simp to_z-of_z at (ap (to_z w128) c.if-after-before.true))
 
 pub overflow_sub-after : goal.overflow_sub-after
 overflow_sub-after c =
