@@ -8,10 +8,6 @@ use Rattle.sfm_matroid.specs.Amounts.{IsBeside, CanHold, rest_of}
 use Rattle.sfm_matroid.specs.Notes.{AreBeside}
 use Rattle.sfm_matroid.specs.declared.pair.SplitPair.{SplitPair}
 
--- each is beside itself
-pub beside_itself : (d : Demands) → IsBeside d d
-beside_itself d = record { lists = refl; places = refl; slots = refl }
-
 -- what is beside another has that beside it
 pub beside_back : (d e : Demands) → IsBeside d e → IsBeside e d
 beside_back d e h = record { lists = sym h.lists; places = sym h.places; slots = sym h.slots }
@@ -31,7 +27,3 @@ spare_there pair k is h other some = rw (← same_Some k other (sym is ∙ some)
 -- where the split that is kept changes to one beside it, the spare one is beside it still
 pub spare_beside : (before after : SplitPair) → after.spare ≡ before.spare → IsBeside before.kept.demand after.kept.demand → AreBeside before → AreBeside after
 spare_beside before after same h spare k some = beside_next after.kept.demand before.kept.demand k.demand (beside_back before.kept.demand after.kept.demand h) (spare k (sym same ∙ some))
-
--- and where its demands do not change
-pub spare_same : (before after : SplitPair) → after.spare ≡ before.spare → after.kept.demand ≡ before.kept.demand → AreBeside before → AreBeside after
-spare_same before after same is spare k some = rw is (spare k (sym same ∙ some))

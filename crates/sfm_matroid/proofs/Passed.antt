@@ -6,7 +6,7 @@ use mir.Syntax.{w128}
 use Rattle.sfm_spec.specs.Bounds.{IsAtMost, IsEntry, IsFactor, IsGiven}
 use Rattle.sfm_spec.specs.Kinds.{Edge}
 use Rattle.sfm_law.proofs.Fits.{given_fits, given_more, product_fits, rank_fits}
-use Rattle.sfm_matroid.specs.Amounts.{AreEndAmounts, AreFactors, CanAdd, CanWeigh, IsWeight}
+use Rattle.sfm_matroid.specs.Amounts.{AreEndAmounts, CanAdd, CanWeigh, IsWeight}
 use Rattle.sfm_matroid.specs.Notes.{AreSlotAmounts}
 use Rattle.sfm_matroid.proofs.Fits.{product_is}
 
@@ -30,9 +30,6 @@ low_passed w given low = subst (λ z. pos 0 ≤ℤ z) (sym (to_z-of_z w128 w (gi
 
 pub weight_passed : (w : ℤ) → IsGiven w → pos 0 ≤ℤ w → IsWeight (to_z w128 (of_z w128 w))
 weight_passed w given low = record { low = low_passed w given low; given = given_passed w given }
-
-pub factors_passed : (q w : ℤ) → IsFactor q → IsGiven w → pos 0 ≤ℤ w → AreFactors (to_z w128 (of_z w128 q)) (to_z w128 (of_z w128 w))
-factors_passed q w factor given low = record { factor = factor_passed q factor; weight = weight_passed w given low }
 
 pub weigh_passed : (w : ℤ) (set : List Bool) → IsGiven w → pos 0 ≤ℤ w → length set ≤ 256 → CanWeigh (to_z w128 (of_z w128 w)) set
 weigh_passed w set given low few = record { weight = weight_passed w given low; few = few }

@@ -1,4 +1,4 @@
-use Rattle.std.proofs.Common.{◌≡◌, ◌-◌, refl, sym, ap, ◌∙◌, arith, ⊎_elim}
+use Rattle.std.proofs.Common.{◌≡◌, ◌-◌, sym, ap, ◌∙◌, arith, ⊎_elim}
 use Rattle.std.proofs.lemmas.Bool.{both_ways, cases_eq}
 use Rattle.sfm_concave.specs.ConcaveLaws.{scaled}
 use Rattle.sfm_concave.specs.Thresholds.{slack_from}

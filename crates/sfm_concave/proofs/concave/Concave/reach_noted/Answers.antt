@@ -1,6 +1,4 @@
-use Rattle.std.proofs.Common.{◌∙◌, FitsSigned}
-use Rattle.std.proofs.lemmas.Int.{to_z-of_z}
-use mir.Syntax.{w128}
+use Rattle.std.proofs.Common.{◌∙◌}
 use Rattle.sfm_concave.proofs.ConcaveRooms.{IsConcaveBase, concave_at, reach_by_bar}
 use Rattle.sfm_concave.proofs.concave.Concave.reach_noted.Goals as goal
 

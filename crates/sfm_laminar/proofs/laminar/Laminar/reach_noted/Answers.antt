@@ -1,4 +1,3 @@
-use Rattle.std.proofs.Common.{◌∙◌, length-set, arith}
 use Rattle.std.proofs.lemmas.Bool.{both_ways}
 use Rattle.sfm_laminar.proofs.Exchanges.{reach_none, reach_held}
 use Rattle.sfm_laminar.proofs.Slacking.{noted_support}

@@ -1,4 +1,4 @@
-use Rattle.std.proofs.Common.{◌≡◌, ◌∙◌, ℤ, pos, length, arith, FitsSigned}
+use Rattle.std.proofs.Common.{ℤ, pos, arith, FitsSigned}
 use Rattle.std.proofs.lemmas.Int.{ints, to_z-of_z}
 use mir.Syntax.{w128}
 use Rattle.sfm_laminar.specs.Crossing.{group_at}

@@ -3,7 +3,7 @@ use Rattle.std.proofs.lemmas.Bool.{both_ways}
 use mir.Syntax.{w128}
 use Rattle.sfm_law.proofs.Fits.{product_low}
 use Rattle.sfm_matroid.proofs.Fits.{capped_amounts}
-use Rattle.sfm_matroid.proofs.Passed.{cap_passed, factors_passed}
+use Rattle.sfm_matroid.proofs.Passed.{cap_passed}
 use Rattle.sfm_matroid.specs.Numbered.{numbered, vertex_count}
 use Rattle.sfm_matroid.proofs.GraphicBases.{capped_base, edges_sized, end_amounts}
 use Rattle.sfm_matroid.proofs.GraphicRooms.{base_split}

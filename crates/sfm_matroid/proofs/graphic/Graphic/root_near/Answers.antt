@@ -1,6 +1,5 @@
 use Rattle.std.proofs.Common.{◌∙◌, [], ◌*ℤ◌, sym}
 use Rattle.sfm_matroid.specs.Numbered.{numbered, vertex_count}
-use Rattle.sfm_matroid.proofs.GraphicRooms.{end_vertex}
 use Rattle.sfm_matroid.proofs.Noted.{over_any}
 use Rattle.sfm_matroid.proofs.Numbers.{length-numbered}
 use Rattle.sfm_matroid.proofs.graphic.Graphic.root_near.Goals as goal

@@ -2,7 +2,7 @@ use Rattle.std.proofs.Common.{◌*ℤ◌}
 use Rattle.sfm_law.proofs.Fits.{product_low}
 use Rattle.sfm_matroid.proofs.AnyRank.{even_and, not_even}
 use Rattle.sfm_matroid.proofs.Kept.{graphic_kept}
-use Rattle.sfm_matroid.proofs.Passed.{can_add, cap_passed, factors_passed}
+use Rattle.sfm_matroid.proofs.Passed.{can_add, cap_passed}
 use Rattle.sfm_matroid.proofs.GraphicBases.{base_by_entries, end_amounts, tails_tell}
 use Rattle.sfm_matroid.proofs.graphic.GraphicTerm.is_base.Goals as goal
 
@@ -19,9 +19,6 @@ returns-clause-told c =
 
 pub adds_up-requires : goal.adds_up-requires
 adds_up-requires c = let s = c.args.self.now in can_add _ _ _ _ _ c.requires.factor s.given s.low s.few (graphic_kept s) c.requires.entries c.requires.small
-
-pub cap_of-requires : goal.cap_of-requires
-cap_of-requires c = let s = c.args.self.now in factors_passed c.args.q s.w c.requires.factor s.given s.low
 
 pub passes_tails-requires : goal.passes_tails-requires
 passes_tails-requires c = let cap = c.cap_of.ensures in end_amounts c.args.self.now c.cap_of.result cap.low cap.high c.args.x.now c.requires.entries (c.adds_up.ensures.amounts c.if-not-adds_up.false)

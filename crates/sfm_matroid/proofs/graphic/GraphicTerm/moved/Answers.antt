@@ -1,9 +1,8 @@
-use Rattle.std.proofs.Common.{◌*ℤ◌, arith, FitsSigned}
+use Rattle.std.proofs.Common.{◌*ℤ◌, FitsSigned}
 use Rattle.std.proofs.lemmas.Int.{to_z-of_z}
 use mir.Syntax.{w128}
 use Rattle.sfm_matroid.proofs.AnyRank.{can_move, exchanged_base, exchanged_places}
 use Rattle.sfm_matroid.proofs.GraphicBases.{capped_base, edges_sized}
-use Rattle.sfm_matroid.proofs.GraphicRooms.{end_vertex}
 use Rattle.sfm_matroid.specs.Numbered.{numbered, vertex_count}
 use Rattle.sfm_matroid.proofs.Noted.{over_any}
 use Rattle.sfm_matroid.proofs.Passed.{factor_fits}

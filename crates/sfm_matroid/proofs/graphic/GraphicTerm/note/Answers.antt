@@ -3,7 +3,7 @@ use Rattle.std.proofs.lemmas.Option.{none-some}
 use mir.Syntax.{w128}
 use Rattle.sfm_law.proofs.Fits.{product_low}
 use Rattle.sfm_matroid.proofs.Fits.{capped_amounts}
-use Rattle.sfm_matroid.proofs.Passed.{cap_passed, factors_passed}
+use Rattle.sfm_matroid.proofs.Passed.{cap_passed}
 use Rattle.sfm_matroid.proofs.GraphicBases.{capped_base, end_amounts}
 use Rattle.sfm_matroid.proofs.GraphicRooms.{first_split}
 use Rattle.sfm_matroid.proofs.graphic.GraphicTerm.note.Goals.{After-cap_of-cap}

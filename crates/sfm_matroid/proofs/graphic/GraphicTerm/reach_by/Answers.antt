@@ -1,7 +1,6 @@
-use Rattle.std.proofs.Common.{◌∙◌, length, refl}
+use Rattle.std.proofs.Common.{length}
 use Rattle.sfm_law.proofs.Fits.{product_low}
-use Rattle.sfm_matroid.proofs.Beside.{spare_same}
-use Rattle.sfm_matroid.proofs.Passed.{cap_passed, factors_passed}
+use Rattle.sfm_matroid.proofs.Passed.{cap_passed}
 use Rattle.sfm_matroid.proofs.GraphicRooms.{row_reach}
 use Rattle.sfm_matroid.proofs.graphic.GraphicTerm.reach_by.Goals as goal
 

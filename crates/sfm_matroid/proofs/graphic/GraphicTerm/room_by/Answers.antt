@@ -1,9 +1,9 @@
-use Rattle.std.proofs.Common.{◌≡◌, ◌∙◌, ◌*ℤ◌, length, ap, arith, rules, to_z, of_z, FitsSigned}
+use Rattle.std.proofs.Common.{◌≡◌, ◌∙◌, ◌*ℤ◌, length, arith, rules, to_z, of_z, FitsSigned}
 use Rattle.std.proofs.lemmas.Int.{to_z-of_z}
 use mir.Syntax.{w128}
 use Rattle.sfm_law.proofs.Fits.{product_low}
 use Rattle.sfm_matroid.specs.Numbered.{vertex_capacities, vertex_count}
-use Rattle.sfm_matroid.proofs.Passed.{cap_passed, factors_passed}
+use Rattle.sfm_matroid.proofs.Passed.{cap_passed}
 use Rattle.sfm_matroid.proofs.GraphicBases.{capped_base}
 use Rattle.sfm_matroid.proofs.GraphicRooms.{end_vertex, ends_hold, grown_capacity}
 use Rattle.sfm_matroid.proofs.graphic.GraphicTerm.room_by.Goals.{After-cap_of-cap, After-deref}
@@ -15,9 +15,6 @@ cap_is c = let s = c.args.self.now in cap_passed c.args.at.now.q s.w c.requires.
 -- what the vertices may hold
 held : (c : After-deref) → c.deref.result.now ≡ vertex_capacities (vertex_count c.args.self.now.ends) (c.args.at.now.q *ℤ c.args.self.now.w) c.end_near-root.result
 held c = c.deref.ensures.value ∙ rw (c.args.self.now.counted, cap_is (goal.at.After-deref c).After-cap_of-cap) at c.in_ok-held.ensures
-
-pub cap_of-cap-requires : goal.cap_of-cap-requires
-cap_of-cap-requires c = let s = c.args.self.now in factors_passed c.args.at.now.q s.w c.requires.based.factor s.given s.low
 
 pub pull_of-pull-requires-clause-capped : goal.pull_of-pull-requires-clause-capped
 pull_of-pull-requires-clause-capped c = let b = c.requires.based in rw (cap_is (goal.at.pull_of-pull-requires-clause-capped c).After-cap_of-cap) (capped_base c.args.self.now c.args.at.now.q b.factor c.args.at.now.x.now b.entries b.base)

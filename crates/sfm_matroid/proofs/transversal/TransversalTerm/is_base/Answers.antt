@@ -3,7 +3,7 @@ use Rattle.sfm_law.proofs.Fits.{product_low}
 use Rattle.sfm_matroid.proofs.AnyRank.{even_and, not_even}
 use Rattle.sfm_matroid.proofs.Kept.{transversal_kept}
 use Rattle.sfm_matroid.proofs.Options.{split_tells}
-use Rattle.sfm_matroid.proofs.Passed.{can_add, cap_passed, factors_passed}
+use Rattle.sfm_matroid.proofs.Passed.{can_add, cap_passed}
 use Rattle.sfm_matroid.proofs.TransversalBases.{base_by_entries, slot_amounts, slots_tell}
 use Rattle.sfm_matroid.proofs.transversal.TransversalTerm.is_base.Goals as goal
 
@@ -29,6 +29,3 @@ returns-clause-told c =
 
 pub adds_up-requires : goal.adds_up-requires
 adds_up-requires c = let s = c.args.self.now in can_add _ _ _ _ _ c.requires.factor s.given s.low s.few (transversal_kept s) c.requires.entries c.requires.small
-
-pub cap_of-requires : goal.cap_of-requires
-cap_of-requires c = let s = c.args.self.now in factors_passed c.args.q s.w c.requires.factor s.given s.low

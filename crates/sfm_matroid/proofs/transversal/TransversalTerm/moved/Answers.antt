@@ -1,4 +1,4 @@
-use Rattle.std.proofs.Common.{◌≡◌, ℕ, List, length, replicate, ℤ, ◌*ℤ◌, ◌∙◌, ap, refl, sym}
+use Rattle.std.proofs.Common.{◌≡◌, ℕ, List, length, replicate, ℤ, ◌*ℤ◌, ◌∙◌, refl}
 use Rattle.sfm_spec.specs.Terms.{exchanged}
 use Rattle.sfm_spec.proofs.Sums.{length-exchanged}
 use Rattle.sfm_law.proofs.Rooms.{base_within_room}

@@ -1,7 +1,7 @@
 use Rattle.std.proofs.Common.{◌≡◌, ◌*ℤ◌, to_z, of_z}
 use mir.Syntax.{w128}
 use Rattle.sfm_matroid.proofs.Fits.{capped_amounts}
-use Rattle.sfm_matroid.proofs.Passed.{cap_passed, factors_passed}
+use Rattle.sfm_matroid.proofs.Passed.{cap_passed}
 use Rattle.sfm_matroid.proofs.TransversalBases.{IsHeldBase, held_base, slot_amounts}
 use Rattle.sfm_matroid.proofs.transversal.TransversalTerm.note.Goals.{After-above-m}
 use Rattle.sfm_matroid.proofs.transversal.TransversalTerm.note.Goals as goal
@@ -11,9 +11,6 @@ held c = let r = c.requires in held_base c.args.self.now c.args.at.now.q c.above
 
 cap_is : (c : After-above-m) → to_z w128 (of_z w128 c.cap_of-cap.result) ≡ (c.args.at.now.q *ℤ c.args.self.now.w)
 cap_is c = let s = c.args.self.now in cap_passed c.args.at.now.q s.w c.requires.factor s.given c.cap_of-cap.result c.cap_of-cap.ensures.value
-
-pub cap_of-cap-requires : goal.cap_of-cap-requires
-cap_of-cap-requires c = let s = c.args.self.now in factors_passed c.args.at.now.q s.w c.requires.factor s.given s.low
 
 pub slot_split-requires-clause-amounts : goal.slot_split-requires-clause-amounts
 slot_split-requires-clause-amounts c =

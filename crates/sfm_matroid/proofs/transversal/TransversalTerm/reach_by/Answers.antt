@@ -1,12 +1,8 @@
-use Rattle.std.proofs.Common.{◌∙◌, length, refl}
+use Rattle.std.proofs.Common.{length}
 use Rattle.sfm_law.proofs.Fits.{product_low}
-use Rattle.sfm_matroid.proofs.Beside.{spare_same}
-use Rattle.sfm_matroid.proofs.Passed.{cap_passed, factors_passed}
+use Rattle.sfm_matroid.proofs.Passed.{cap_passed}
 use Rattle.sfm_matroid.proofs.TransversalBases.{reach_slots}
 use Rattle.sfm_matroid.proofs.transversal.TransversalTerm.reach_by.Goals as goal
-
-pub cap_of-cap-requires : goal.cap_of-cap-requires
-cap_of-cap-requires c = let s = c.args.self.now in factors_passed c.args.at.now.q s.w c.requires.based.factor s.given s.low
 
 pub returns-clause-reached : goal.returns-clause-reached
 returns-clause-reached c =

@@ -3,7 +3,7 @@ use Rattle.std.specs.Int.{int_min}
 use Rattle.std.proofs.lemmas.Int.{to_z-of_z}
 use mir.Syntax.{w128}
 use Rattle.sfm_law.proofs.Fits.{product_low}
-use Rattle.sfm_matroid.proofs.Passed.{cap_passed, factors_passed}
+use Rattle.sfm_matroid.proofs.Passed.{cap_passed}
 use Rattle.sfm_matroid.proofs.TransversalBases.{grown_capacity, held_base, no_capacity, slots_hold}
 use Rattle.sfm_matroid.proofs.transversal.TransversalTerm.room_by.Goals.{After-pull_of-pull}
 use Rattle.sfm_matroid.proofs.transversal.TransversalTerm.room_by.Goals as goal
@@ -11,9 +11,6 @@ use Rattle.sfm_matroid.proofs.transversal.TransversalTerm.room_by.Goals as goal
 -- what u may get of v
 most_is : (c : After-pull_of-pull) → c.pull_of-pull.result.limit ≡ int_min (get_or c.args.at.now.x.now c.args.v (pos 0)) ((c.args.at.now.q *ℤ c.args.self.now.w) -ℤ get_or c.args.at.now.x.now c.args.u (pos 0))
 most_is c = let s = c.args.self.now in rw (cap_passed c.args.at.now.q s.w c.requires.based.factor s.given c.cap_of-cap.result c.cap_of-cap.ensures.value) at c.pull_of-pull.ensures.limit
-
-pub cap_of-cap-requires : goal.cap_of-cap-requires
-cap_of-cap-requires c = let s = c.args.self.now in factors_passed c.args.at.now.q s.w c.requires.based.factor s.given s.low
 
 pub pull_of-pull-requires-clause-capped : goal.pull_of-pull-requires-clause-capped
 pull_of-pull-requires-clause-capped c =
