@@ -265,11 +265,11 @@ impl Spread {
             (IsAnswer (length answers.now) shares.now.cells.whos.items shares.now.cells.slots.items
             shares.now.y.items rooms.now self.old.from)) }
     {
-        let f = shares.cells.whos[link.own];
-        if self.found.contains(f) {
+        if shares.y[link.own] <= 0 {
             return Ok(None);
         }
-        if shares.y[link.own] <= 0 {
+        let f = shares.cells.whos[link.own];
+        if self.found.contains(f) {
             return Ok(None);
         }
         match &answers[f] {
