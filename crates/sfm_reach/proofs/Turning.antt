@@ -1,37 +1,45 @@
 -- Rows turned round, a bit at a time.
-use Rattle.std.proofs.Common.{◌≡◌, ◌≢◌, ⊎_elim, ℕ, ◌+◌, ◌-◌, ◌<◌, ◌≤◌, List, length, set, refl, sym, ap, ◌∙◌, arith, length-set, get_or-set_same, get_or-set_other}
-use Rattle.std.proofs.lemmas.Bool.{cases_eq, cases_lt}
+use Rattle.std.proofs.Common.{◌≡◌, ◌≢◌, ◌↔◌, ⊎_elim, ℕ, Bool, true, false, if◌then◌else◌, ◌+◌, ◌<◌, ◌≤◌, List, length, set, refl, sym, ap, ◌∙◌, arith, length-set, get_or-set_same, get_or-set_other}
+use Rattle.std.proofs.lemmas.Bool.{false≢true, cases_eq, cases_lt}
 use Rattle.std.proofs.lemmas.List.{get_or_past}
 use Rattle.sfm_reach.specs.declared.bits.Bits.{Bits}
 use Rattle.sfm_reach.specs.Bits.{bit_in, set_at, blank_bits, IsTaken}
 use Rattle.sfm_reach.specs.Turned.{AreTurned}
-use Rattle.sfm_reach.proofs.Words.{within_words}
+use Rattle.sfm_reach.proofs.Words.{bit_in-lt, within_words}
 
--- the bits at e have become b for the places of a row but those ahead; all other bits stay
-pub record IsTurning (b e : ℕ) (row ahead : Bits) (old new : List Bits) : Type 0 where
+-- the bits at e are those of the row after, but at places ahead, which are among those in which the rows differ; all other bits stay
+pub record IsTurning (e : ℕ) (before after ahead : Bits) (old new : List Bits) : Type 0 where
   pub count : length new ≡ length old
-  pub inside : (t : ℕ) → bit_in ahead t ≤ bit_in row t
-  pub written : (t : ℕ) → t < length old → bit_in row t ≡ 1 → bit_in ahead t ≡ 0 → bit_in (set_at new t) e ≡ b
-  pub kept : (t : ℕ) → bit_in row t ≡ 0 → bit_in (set_at new t) e ≡ bit_in (set_at old t) e
+  pub inside : (t : ℕ) → bit_in ahead t ≡ 1 → bit_in before t ≢ bit_in after t
+  pub written : (t : ℕ) → t < length old → bit_in before t ≢ bit_in after t → bit_in ahead t ≡ 0 → bit_in (set_at new t) e ≡ bit_in after t
+  pub kept : (t : ℕ) → bit_in before t ≡ bit_in after t → bit_in (set_at new t) e ≡ bit_in (set_at old t) e
   pub others : (k t : ℕ) → k ≢ e → bit_in (set_at new t) k ≡ bit_in (set_at old t) k
 
-pub turning_begun : (b e : ℕ) (row ahead : Bits) (old : List Bits) → ((t : ℕ) → bit_in ahead t ≡ bit_in row t) → IsTurning b e row ahead old old
-turning_begun b e row ahead old all = record {
+pub turning_begun : (e : ℕ) (before after changed ahead : Bits) (old : List Bits) → ((t : ℕ) → (bit_in changed t ≡ 0) ↔ (bit_in before t ≡ bit_in after t)) → ((t : ℕ) → bit_in ahead t ≡ bit_in changed t) → IsTurning e before after ahead old old
+turning_begun e before after changed ahead old same all = record {
   count = refl;
-  inside = λ t. let a = all t in omega (arith, a);
-  written = λ t l one none. absurd (let a = all t in omega (arith, a, one, none));
+  inside = λ t one even. let a = all t in let z = (same t).1 even in omega (arith, a, z, one);
+  written = λ t l apart none. absurd (apart ((same t).0 (sym (all t) ∙ none)));
   kept = λ t h. refl;
   others = λ k t h. refl;
 }
 
+-- a truth value tells a bit
+told_bit : (b : Bool) (x : ℕ) → x < 2 → (b ≡ true) ↔ (x ≡ 1) → (if b then 1 else 0) ≡ x
+told_bit true x lt is = sym (is.0 refl)
+told_bit false x lt is = ⊎_elim (λ one. absurd (false≢true (is.1 one))) (λ ne. omega (arith, lt, ne)) (cases_eq x 1)
+
 -- one place more
-pub turning_more : (b e : ℕ) (row ahead ahead' : Bits) (old new : List Bits) (t : ℕ) (s : Bits) → IsTurning b e row ahead old new → t < length old → IsTaken ahead t ahead'
-    → bit_in s e ≡ b → ((k : ℕ) → k ≢ e → bit_in s k ≡ bit_in (set_at new t) k) → IsTurning b e row ahead' old (set new t s)
-turning_more b e row ahead ahead' old new t s h inside taken put others = record {
+pub turning_more : (e : ℕ) (before after ahead ahead' : Bits) (old new : List Bits) (t : ℕ) (s : Bits) (put : Bool) → IsTurning e before after ahead old new → t < length old → IsTaken ahead t ahead'
+    → (put ≡ true) ↔ (bit_in after t ≡ 1) → bit_in s e ≡ (if put then 1 else 0) → ((k : ℕ) → k ≢ e → bit_in s k ≡ bit_in (set_at new t) k) → IsTurning e before after ahead' old (set new t s)
+turning_more e before after ahead ahead' old new t s put h inside taken told wrote others = record {
   count = length-set new t s ∙ h.count;
-  inside = λ k. ⊎_elim (λ same. rw same (omega (arith, taken.out))) (λ ne. let i = h.inside k in let r = taken.others k ne in omega (arith, i, r)) (cases_eq k t);
-  written = λ k l has none. ⊎_elim (λ same. rw (here k same) put) (λ ne. rw (there k ne) (h.written k l has (sym (taken.others k ne) ∙ none))) (cases_eq k t);
-  kept = λ k none. ⊎_elim (λ same. absurd (let i = h.inside t in let z : bit_in row t ≡ 0 = rw same at none in omega (arith, i, taken.had, z))) (λ ne. rw (there k ne) (h.kept k none)) (cases_eq k t);
+  inside = λ k one. ⊎_elim (λ (same : k ≡ t). absurd (let o = taken.out in let z : bit_in ahead' t ≡ 1 = rw same at one in omega (arith, o, z))) (λ ne. h.inside k (sym (taken.others k ne) ∙ one)) (cases_eq k t);
+  written = λ k l apart none. ⊎_elim
+      (λ (same : k ≡ t). ap (λ z. bit_in z e) (here k same) ∙ (wrote ∙ (told_bit put (bit_in after t) (bit_in-lt after t) told ∙ ap (λ z. bit_in after z) (sym same))))
+      (λ ne. rw (there k ne) (h.written k l apart (sym (taken.others k ne) ∙ none)))
+      (cases_eq k t);
+  kept = λ k even. ⊎_elim (λ (same : k ≡ t). absurd (h.inside t taken.had (rw same at even))) (λ ne. rw (there k ne) (h.kept k even)) (cases_eq k t);
   others = λ j k ne. ⊎_elim (λ same. rw (here k same) (others j ne ∙ (h.others j t ne ∙ ap (λ z. bit_in (set_at old z) j) (sym same)))) (λ apart. rw (there k apart) (h.others j k ne)) (cases_eq k t);
 } where
   l : t < length new
@@ -43,19 +51,9 @@ turning_more b e row ahead ahead' old new t s h inside taken put others = record
   there : (k : ℕ) → k ≢ t → set_at (set new t s) k ≡ set_at new k
   there k ne = get_or-set_other new t k s blank_bits ne
 
--- a column after the bits that are lost, and then those that are gained
-pub column_turned : (before after lost gained here mid there : ℕ) → before < 2 → after < 2 → here ≡ before → lost ≡ before - after → gained ≡ after - before
-    → (lost ≡ 1 → mid ≡ 0) → (lost ≡ 0 → mid ≡ here) → (gained ≡ 1 → there ≡ 1) → (gained ≡ 0 → there ≡ mid) → there ≡ after
-column_turned before after lost gained here mid there lb la is l g out kept put stay = ⊎_elim
-    (λ a. ⊎_elim
-    (λ b. let m = kept (omega (arith, l, a, b)) in let t = stay (omega (arith, g, a, b)) in omega (arith, m, t, is, a, b))
-    (λ b. let t = put (omega (arith, g, a, b, lb)) in omega (arith, t, a))
-    (cases_eq before 1))
-    (λ a. ⊎_elim
-    (λ b. let m = out (omega (arith, l, a, b, la)) in let t = stay (omega (arith, g, a, b, la)) in omega (arith, m, t, a, la))
-    (λ b. let m = kept (omega (arith, l, a, b, lb, la)) in let t = stay (omega (arith, g, a, b, la)) in omega (arith, m, t, is, a, b, la, lb))
-    (cases_eq before 1))
-    (cases_eq after 1)
+-- no place is ahead
+pub turning_done : (e : ℕ) (before after ahead : Bits) (old new : List Bits) (t : ℕ) → IsTurning e before after ahead old new → t < length old → bit_in ahead t ≡ 0 → bit_in (set_at old t) e ≡ bit_in before t → bit_in (set_at new t) e ≡ bit_in after t
+turning_done e before after ahead old new t h l none was = ⊎_elim (λ even. h.kept t even ∙ (was ∙ even)) (λ apart. h.written t l apart none) (cases_eq (bit_in before t) (bit_in after t))
 
 -- the first k rows are turned round
 pub record AreTurnedTo (k : ℕ) (rows back : List Bits) : Type 0 where

@@ -147,3 +147,20 @@ words_more words k s lt h = record {
 -- all words
 pub words_all : (words : List ℕ) (k : ℕ) (s : Bits) → length words ≤ k → HasWords words k s → (e : ℕ) → bit_in s e ≡ bit_of words e
 words_all words k s all h e = ⊎_elim (λ l. h.written e l) (λ ge. h.none e ge ∙ sym (past_words words e (omega (arith, all, ge)))) (cases_lt (e / 64) k)
+
+-- the words below k are made of those before and of others, and those from k on are as before
+pub made_more : (F : ℕ → ℕ → ℕ) (before others words : List ℕ) (k : ℕ) → k < 4 → ((j : ℕ) → j < k → get_or words j 0 ≡ F (get_or before j 0) (get_or others j 0)) × ((j : ℕ) → k ≤ j → get_or words j 0 ≡ get_or before j 0) × (length words ≡ 4)
+    → ((j : ℕ) → j < k + 1 → get_or (set words k (F (get_or words k 0) (get_or others k 0))) j 0 ≡ F (get_or before j 0) (get_or others j 0)) × ((j : ℕ) → k + 1 ≤ j → get_or (set words k (F (get_or words k 0) (get_or others k 0))) j 0 ≡ get_or before j 0) × (length (set words k (F (get_or words k 0) (get_or others k 0))) ≡ 4)
+made_more F before others words k lt (made, rest, count) = (
+  (λ j l. ⊎_elim
+      (λ (same : j ≡ k). rw same (get_or-set_same words k w 0 there ∙ ap (λ z. F z (get_or others k 0)) (rest k (omega arith))))
+      (λ ne. get_or-set_other words k j w 0 ne ∙ made j (omega (arith, l, ne)))
+      (cases_eq j k)),
+  (λ j l. get_or-set_other words k j w 0 (λ same. omega (arith, same, l)) ∙ rest j (omega (arith, l))),
+  length-set words k w ∙ count,
+) where
+  there : k < length words
+  there = omega (arith, lt, count)
+
+  w : ℕ
+  w = F (get_or words k 0) (get_or others k 0)

@@ -1,5 +1,5 @@
 -- Rows turned round: for each place the set of the places from which a link leads to it.
-use Rattle.std.specs.Prelude.{◌≡◌, ◌≢◌, ℕ, ◌<◌, List, length}
+use Rattle.std.specs.Prelude.{◌≡◌, ℕ, ◌<◌, List, length}
 use Rattle.sfm_reach.specs.declared.bits.Bits.{Bits}
 use Rattle.sfm_reach.specs.Bits.{bit_in, set_at}
 
@@ -7,10 +7,3 @@ use Rattle.sfm_reach.specs.Bits.{bit_in, set_at}
 pub record AreTurned (rows back : List Bits) : Type 0 where
   pub count : length back ≡ 256
   pub exact : (e t : ℕ) → t < 256 → bit_in (set_at back t) e ≡ bit_in (set_at rows e) t
-
--- the bits at e have become b in the sets of some places, and all other bits stay
-pub record AreWritten (old new : List Bits) (e : ℕ) (places : Bits) (b : ℕ) : Type 0 where
-  pub count : length new ≡ length old
-  pub written : (t : ℕ) → t < 256 → bit_in places t ≡ 1 → bit_in (set_at new t) e ≡ b
-  pub kept : (t : ℕ) → bit_in places t ≡ 0 → bit_in (set_at new t) e ≡ bit_in (set_at old t) e
-  pub others : (k t : ℕ) → k ≢ e → bit_in (set_at new t) k ≡ bit_in (set_at old t) k

@@ -84,27 +84,48 @@ impl Bits {
     pub fn union_with(&mut self, other: &Bits)
         ensures { (e : ℕ) → bit_in self.new e ≡ max (bit_in self.old e) (bit_in other.now e) }
     {
+        let mut words = self.words;
+        let others = other.words;
         for k in 0..4 {
-            self.words[k] |= other.words[k];
+            words[k] |= others[k];
         }
+        self.words = words;
     }
 
     /// Takes each place out that the other set has not.
     pub fn meet_with(&mut self, other: &Bits)
         ensures { (e : ℕ) → bit_in self.new e ≡ min (bit_in self.old e) (bit_in other.now e) }
     {
+        let mut words = self.words;
+        let others = other.words;
         for k in 0..4 {
-            self.words[k] &= other.words[k];
+            words[k] &= others[k];
         }
+        self.words = words;
     }
 
     /// Takes each place of the other set out.
     pub fn remove_all(&mut self, other: &Bits)
         ensures { (e : ℕ) → bit_in self.new e ≡ bit_in self.old e - bit_in other.now e }
     {
+        let mut words = self.words;
+        let others = other.words;
         for k in 0..4 {
-            self.words[k] ^= self.words[k] & other.words[k];
+            words[k] ^= words[k] & others[k];
         }
+        self.words = words;
+    }
+
+    /// The places that one of the two sets has and the other has not.
+    pub fn differing(&self, other: &Bits) -> Bits
+        ensures { (e : ℕ) → (bit_in result e ≡ 0) ↔ (bit_in self.now e ≡ bit_in other.now e) }
+    {
+        let mut words = self.words;
+        let others = other.words;
+        for k in 0..4 {
+            words[k] ^= others[k];
+        }
+        Bits { words }
     }
 
     /// The least place of the set.
@@ -121,8 +142,10 @@ impl Bits {
             (λ e. (e < 256) × (bit_in self.now e ≡ 1) × (bit_in other.now e ≡ 1)
             × ((k : ℕ) → k < e → bit_in self.now k ≡ 1 → bit_in other.now k ≢ 1)) }
     {
+        let words = self.words;
+        let others = other.words;
         for k in 0..4 {
-            let common = self.words[k] & other.words[k];
+            let common = words[k] & others[k];
             if common != 0 {
                 return Some(64 * k + common.trailing_zeros() as usize);
             }

@@ -5,7 +5,7 @@ ghost use Rattle.sfm_spec.specs.{Sets.{IsPlaced}, Rows.{Depends}, Terms.{times}}
 ghost use Rattle.sfm_reach.specs.{Based.{IsPlacedBase}, Bits.{HasPlaces, bit_in, set_at}, Image.{IsImage}, Reach.{IsReachTable, IsRow, AreRowsOf, AreSized}};
 
 use crate::bits::{Bits, no_bits, of_words};
-use crate::image::{Image, are_in_order};
+use crate::image::{Image, are_in_order, write_changed};
 use sfm_base::{Memory, Set};
 use sfm_law::{At, Lead, Term};
 use std::alloc::Global;
@@ -117,22 +117,18 @@ impl BitRows {
     }
 }
 
-/// The ground places of a part of a term. Where the places of the term are not in order, they are taken out of the part one
-/// after another, until it has none.
-pub fn placed_bits(places: &[usize], part: &mut Set) -> Bits
+/// The ground places of a part of a term.
+pub fn placed_bits(places: &[usize], part: &Set) -> Bits
     requires placed { IsPlaced 256 places.now }
-    requires part { length part.old ≡ length places.now }
-    ensures same { length part.new ≡ length part.old }
-    ensures places { HasPlaces places.now part.old (length places.now) result }
+    requires part { length part.now ≡ length places.now }
+    ensures { HasPlaces places.now part.now (length places.now) result }
 {
+    let own = of_words(part.words());
     if are_in_order(places) {
-        return of_words(part.words());
+        return own;
     }
     let mut bits = no_bits();
-    while let Some(v) = part.first() {
-        part.remove(v);
-        bits.insert(places[v]);
-    }
+    write_changed(places, &own, &own, &mut bits);
     bits
 }
 
@@ -158,7 +154,7 @@ pub fn row_by<T: Term>(
     let lead = Lead { from: u, onto: u };
     at.term
         .reach_by(alloc, &at.base, note, &lead, &mut rows.part)?;
-    Ok(placed_bits(at.term.elements(), &mut rows.part))
+    Ok(placed_bits(at.term.elements(), &rows.part))
 }
 
 /// The row of the first place of a lead, beside the parts that were told before it. The note fits the base, and fits it still;

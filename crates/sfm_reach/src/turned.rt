@@ -1,25 +1,13 @@
 // Rows turned round: for each place the set of the places from which a link leads to it. A search backwards joins these sets,
 // one for each place of a level, and looks at no other place. Where a row changes, only the bits in which it differs are
 // turned over.
-ghost use Rattle.std.specs.Prelude.{◌≡◌, ◌≢◌, ◌<◌, ◌≤◌, ℕ, length, IfOk, if◌then◌else◌};
-ghost use Rattle.sfm_reach.specs.{Bits.{bit_in, set_at}, Turned.{AreTurned, AreWritten}};
+ghost use Rattle.std.specs.Prelude.{◌≡◌, ◌≢◌, ◌<◌, ◌≤◌, ℕ, length, IfOk};
+ghost use Rattle.sfm_reach.specs.{Bits.{bit_in, set_at}, Turned.{AreTurned}};
 
 use crate::ahead::Ahead;
 use crate::bits::{Bits, no_bits};
 use sfm_base::Memory;
 use std::alloc::Global;
-
-// Puts e into the sets of some places, or takes it out of them.
-fn write_at(back: &mut [Bits], e: usize, places: &Bits, put: bool)
-    requires place { e < 256 }
-    requires count { length back.old ≡ 256 }
-    ensures { AreWritten back.old back.new e places.now (if put then 1 else 0) }
-{
-    let mut ahead = Ahead::of(places);
-    while let Some(t) = ahead.next() {
-        back[t].write(e, put);
-    }
-}
 
 /// Brings the sets up where the row of e changes.
 pub fn turn(back: &mut [Bits], e: usize, before: &Bits, after: &Bits)
@@ -31,12 +19,11 @@ pub fn turn(back: &mut [Bits], e: usize, before: &Bits, after: &Bits)
     ensures others { (k t : ℕ) → k ≢ e → bit_in (set_at back.new t) k
         ≡ bit_in (set_at back.old t) k }
 {
-    let mut lost = *before;
-    lost.remove_all(after);
-    write_at(back, e, &lost, false);
-    let mut gained = *after;
-    gained.remove_all(before);
-    write_at(back, e, &gained, true);
+    let changed = before.differing(after);
+    let mut ahead = Ahead::of(&changed);
+    while let Some(t) = ahead.next() {
+        back[t].write(e, after.contains(t));
+    }
 }
 
 /// The rows turned round.

@@ -1,13 +1,22 @@
-use Rattle.sfm_reach.specs.Bits.{bit_in, set_at}
-use Rattle.sfm_reach.proofs.Turning.{column_turned}
-use Rattle.sfm_reach.proofs.Words.{bit_in-lt}
+use Rattle.std.proofs.Common.{arith}
+use Rattle.sfm_reach.proofs.Picking.{picking_shrinks}
+use Rattle.sfm_reach.proofs.Turning.{turning_begun, turning_more, turning_done}
 use Rattle.sfm_reach.proofs.turned.turn.Goals as goal
+
+pub loop-t-init : goal.loop-t-init
+loop-t-init c = turning_begun c.args.e c.args.before.now c.args.after.now c.differing-changed.result c.of-ahead.result c.args.back.now c.differing-changed.ensures c.of-ahead.ensures
+
+pub loop-t-smaller : goal.loop-t-smaller
+loop-t-smaller c = picking_shrinks c.loop-t.ahead c.next.new.self c.in-Some.t c.in-Some.ensures
+
+pub loop-t-preserved : goal.loop-t-preserved
+loop-t-preserved c =
+    turning_more c.args.e c.args.before.now c.args.after.now c.loop-t.ahead c.next.new.self c.args.back.now c.loop-t.back c.in-Some.t c.write.new.self c.contains.result c.loop-t.invariant (omega (arith, c.requires.count, c.in-Some.ensures.below)) c.in-Some.ensures
+    c.contains.ensures c.write.ensures.written c.write.ensures.others
 
 pub returns-clause-column : goal.returns-clause-column
 returns-clause-column c = λ t l.
-    let e = c.args.e in
-    let before = c.args.before.now in
-    let after = c.args.after.now in
-    column_turned (bit_in before t) (bit_in after t) (bit_in c.remove_all.new.self t) (bit_in c.remove_all-2.new.self t) (bit_in (set_at c.args.back.now t) e) (bit_in (set_at c.write_at.new.back t) e) (bit_in (set_at c.write_at-2.new.back t) e)
-    (bit_in-lt before t) (bit_in-lt after t) (c.requires.column t l) (c.remove_all.ensures t) (c.remove_all-2.ensures t)
-    (c.write_at.ensures.written t l) (c.write_at.ensures.kept t) (c.write_at-2.ensures.written t l) (c.write_at-2.ensures.kept t)
+    turning_done c.args.e c.args.before.now c.args.after.now c.loop-t.ahead c.args.back.now c.loop-t.back t c.loop-t.invariant (omega (arith, l, c.requires.count)) (c.in_default.ensures t) (c.requires.column t l)
+
+pub returns-clause-others : goal.returns-clause-others
+returns-clause-others c = c.loop-t.invariant.others

@@ -6,7 +6,7 @@ use Rattle.sfm_reach.proofs.Words.{by_words}
 use Rattle.sfm_reach.proofs.bits.Bits.remove_all.Goals as goal
 
 pub returns : goal.returns
-returns c = λ e. by_words (λ a b. a - b) c.loop-k.self c.args.self.now c.args.other.now e refl (omega arith) (omega arith)
+returns c = λ e. by_words (λ a b. a - b) (record { words = c.loop-k.words }) c.args.self.now c.args.other.now e refl (omega arith) (omega arith)
     (λ l.
     let x = get_or c.args.self.now.words (e / 64) 0 in
     let y = get_or c.args.other.now.words (e / 64) 0 in
