@@ -21,3 +21,4 @@ pub mod OneAnswer
 pub mod Pieces
 pub mod Lengths
 pub mod InstanceLengths
+mod Widths

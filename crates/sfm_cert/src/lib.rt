@@ -15,6 +15,7 @@ mod read;
 mod solved;
 mod spot;
 mod steps;
+mod width;
 mod write;
 
 pub use cursor::Cursor;

@@ -1,9 +1,11 @@
 // Where the text of an answer goes. One walk over an answer makes its text, piece by piece; run over a gauge it tells how
 // long the text is, and run over a page it writes the text. Two pieces do what the longer piece does that they make, so it
 // is known what the whole text does.
-ghost use Rattle.std.specs.Prelude.{◌≡◌, ◌-◌, ◌^◌, List, [], ◌++◌, ℕ, length};
+ghost use Rattle.std.specs.{Prelude.{◌≡◌, ◌-◌, ◌^◌, List, [], ◌++◌, ℕ, length}, Fmt.{signed_decimal}};
 ghost use Rattle.sfm_cert.specs.Pages.{after_page, page_nothing, page_joined, left_nothing, left_joined};
 
+use crate::width::width;
+use itoa::Buffer;
 use sfm_base::Page;
 use std::marker::Model;
 
@@ -15,6 +17,10 @@ pub trait Out {
     /// Takes a piece, or as much of it as there is room for.
     fn put(&mut self, piece: &[u8])
         ensures { self.new ≡ after self.old piece.now };
+
+    /// Takes the text of a number.
+    fn put_signed(&mut self, a: i128)
+        ensures { self.new ≡ after self.old (signed_decimal a) };
 
     /// No bytes change nothing.
     ghost nothing: { (out : Self) → after out [] ≡ out };
@@ -58,17 +64,33 @@ impl Out for Gauge {
         self.left = self.left.saturating_sub(piece.len());
     }
 
+    fn put_signed(&mut self, a: i128) {
+        self.left = self.left.saturating_sub(width(a));
+    }
+
     ghost nothing = { left_nothing };
 
     ghost joined = { left_joined };
+}
+
+/// Puts a piece at the end of a page, or as much of it as there is room for.
+fn put_upto(page: &mut Page, piece: &[u8])
+    ensures { page.new ≡ after_page page.old piece.now }
+{
+    let count = piece.len().min(page.spare());
+    page.put(&piece[..count]);
 }
 
 impl Out for Page {
     ghost after = { after_page };
 
     fn put(&mut self, piece: &[u8]) {
-        let count = piece.len().min(self.spare());
-        Page::put(self, &piece[..count]);
+        put_upto(self, piece);
+    }
+
+    fn put_signed(&mut self, a: i128) {
+        let mut buffer = Buffer::new();
+        put_upto(self, buffer.format(a).as_bytes());
     }
 
     ghost nothing = { page_nothing };

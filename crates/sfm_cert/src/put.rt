@@ -36,8 +36,7 @@ pub fn put_names<O: Out>(out: &mut O, instance: &Instance, members: &Set)
 pub fn put_number<O: Out>(out: &mut O, a: i128)
     ensures { out.new ≡ O.after out.old (signed_decimal a) }
 {
-    let mut buffer = Buffer::new();
-    out.put(buffer.format(a).as_bytes());
+    out.put_signed(a);
 }
 
 /// The text of a count.
