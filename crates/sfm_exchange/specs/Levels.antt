@@ -2,6 +2,7 @@
 use Rattle.std.specs.Prelude.{◌≡◌, ◌↔◌, ℕ, suc, ◌+◌, ◌<◌, ◌≤◌, List, [], ◌∷◌, length, slice_index_or, nat_eq, ℤ, pos, ◌<ℤ◌, if◌then◌else◌}
 use Rattle.sfm_reach.specs.declared.bits.Bits.{Bits}
 use Rattle.sfm_reach.specs.Bits.{bit_in, set_at}
+use Rattle.sfm_exchange.specs.declared.path.Stuck.{Stuck}
 
 -- from e a link leads into the set
 abbrev pub LeadsInto : List Bits → ℕ → Bits → Type 0
@@ -11,6 +12,23 @@ LeadsInto unions e s = (t : ℕ) × (bit_in (set_at unions e) t ≡ 1) × (bit_i
 abbrev pub depth_of : List Bits → ℕ → ℕ
 depth_of [] e = 0
 depth_of (level ∷ levels) e = if nat_eq (bit_in level e) 1 then 0 else suc (depth_of levels e)
+
+-- levels of n places, of which no two have a place in common
+pub record AreParted (n : ℕ) (levels : List Bits) : Type 0 where
+  pub below : (k e : ℕ) → k < length levels → bit_in (set_at levels k) e ≡ 1 → e < n
+  pub apart : (j k e : ℕ) → j < length levels → k < length levels → bit_in (set_at levels j) e ≡ 1 → bit_in (set_at levels k) e ≡ 1 → j ≡ k
+
+-- the last level has the place
+pub record IsAtLast (levels : List Bits) (e : ℕ) : Type 0 where
+  pub some : 0 < length levels
+  pub last : (k : ℕ) → k + 1 ≡ length levels → bit_in (set_at levels k) e ≡ 1
+
+-- a place of a level, from which no link leads into the one below
+pub record IsStuck (unions levels : List Bits) (stuck : Stuck) : Type 0 where
+  pub some : 0 < stuck.level
+  pub level_in : stuck.level < length levels
+  pub has : bit_in (set_at levels stuck.level) stuck.place ≡ 1
+  pub none : (j : ℕ) → j + 1 ≡ stuck.level → LeadsInto unions stuck.place (set_at levels j) → ⊥
 
 -- levels of n places: the first has those with z > 0, no two have a place in common, each place of a further level leads into
 -- the one before, and all that lead into a level but the last are in levels up to the next; only the last may have z < 0

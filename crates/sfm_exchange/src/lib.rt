@@ -19,7 +19,7 @@ pub use graph::{Graph, copy_rows, graph_at, restart};
 pub use levels::find_levels;
 pub use moving::{amount_of, move_along};
 pub use multiples::{Beside, copy_graph, graph_by, restart_by, restart_times};
-pub use path::{Hop, Path, follow, local_of, steps_along};
+pub use path::{Hop, Path, Stuck, descend, follow, local_of, steps_along};
 pub use renewing::renew_rows;
 pub use sfm_reach::{Bits, no_bits, reached_from, set_of};
 pub use signs::{Signs, move_signs, signs_of};

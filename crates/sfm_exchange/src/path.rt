@@ -1,9 +1,9 @@
 // One walk of least steps: from each place the walk takes, among the steps into the level below, the one to the least place,
 // and to that place the one of the first term. So no walk from its first place to a place with z > 0 has fewer steps.
-ghost use Rattle.std.specs.Prelude.{◌≡◌, ◌-◌, ◌<◌, ◌≤◌, ℕ, length, IfOk, OnOk, MatchOption, slice_index_or};
+ghost use Rattle.std.specs.Prelude.{◌≡◌, ◌+◌, ◌-◌, ◌<◌, ◌≤◌, ℕ, length, IfOk, OnOk, MatchOption, slice_index_or};
 ghost use Rattle.sfm_spec.specs.{Families.{meanings}, Labels.{FallsAlong, step_code}, Walks.{Step, last_of}};
 ghost use Rattle.sfm_reach.specs.{Bits.{bit_in, set_at}, Spots.{AreSpots, spot_at}, Unions.{AreUnions, HasRows, HaveRows, IsReadable, spot_row}, Reach.{table_at}};
-ghost use Rattle.sfm_exchange.specs.{Levels.{depth_of, IsFirst, LeadsInto}, Hops.{AreHops, AreLeast, IsHop, IsTold, hop_at, step_of, steps_of}};
+ghost use Rattle.sfm_exchange.specs.{Levels.{AreParted, depth_of, IsAtLast, IsFirst, IsStuck, LeadsInto}, Hops.{AreHops, AreLeast, IsHop, IsTold, hop_at, step_of, steps_of}};
 
 use crate::graph::Graph;
 use sfm_base::Memory;
@@ -110,7 +110,70 @@ fn least_step<T: Term>(
     }
 }
 
-/// Writes the walk of least steps from a place of the last level.
+/// A place of a level from which no link leads into the level below.
+#[derive(Clone, Copy)]
+pub struct Stuck {
+    pub place: usize,
+    pub level: usize,
+}
+
+/// Writes the walk of least steps from a place of the last level down to the first, where each leads from a level into the one
+/// below; or gives the place from which none does.
+///
+/// # Errors
+///
+/// `Memory` where there is none.
+pub fn descend<T: Term>(
+    terms: &[T],
+    graph: &Graph<T::Note>,
+    levels: &[Bits],
+    first: usize,
+    hops: &mut Vec<Hop>,
+) -> Result<Option<Stuck>, Memory>
+    requires spots { AreSpots (meanings T.places T.value_of terms.now)
+        (length graph.now.unions.items) graph.now.spots.items }
+    requires rows { HaveRows graph.now.rows.items graph.now.spots.items }
+    requires unions { AreUnions graph.now.rows.items graph.now.spots.items graph.now.unions.items }
+    requires placed { (i : ℕ) → i < length terms.now → IsReadable
+        (meanings T.places T.value_of terms.now) graph.now.rows.items i }
+    requires parted { AreParted (length graph.now.unions.items) levels.now }
+    requires first { IsAtLast levels.now first }
+    ensures hops { OnOk result (AreHops (meanings T.places T.value_of terms.now)
+        graph.now.rows.items first hops.new.items) }
+    ensures falls { OnOk result (FallsAlong (depth_of levels.now) first (steps_of hops.new.items)) }
+    ensures least { OnOk result (AreLeast (meanings T.places T.value_of terms.now)
+        graph.now.rows.items (depth_of levels.now) first hops.new.items) }
+    ensures end { IfOk result (λ r. MatchOption r ((bit_in (set_at levels.now 0)
+        (last_of first (steps_of hops.new.items)) ≡ 1)
+        × (length hops.new.items + 1 ≡ length levels.now))
+        (IsStuck graph.now.unions.items levels.now)) }
+{
+    hops.clear();
+    let mut at = first;
+    let mut k = levels.len() - 1;
+    while k > 0 {
+        if !graph.unions[at].meets(&levels[k - 1]) {
+            return Ok(Some(Stuck {
+                place: at,
+                level: k,
+            }));
+        }
+        k -= 1;
+        let hop = least_step(
+            terms,
+            &graph.spots,
+            &graph.rows,
+            &graph.unions,
+            at,
+            &levels[k],
+        );
+        hops.push(hop)?;
+        at = hop.to;
+    }
+    Ok(None)
+}
+
+/// Writes the walk of least steps from a place of the last level of a search.
 ///
 /// # Errors
 ///
@@ -140,23 +203,10 @@ pub fn follow<T: Term>(
         (last_of first (steps_of hops.new.items)) ≡ 1) }
     ensures some { OnOk result (0 < length hops.new.items) }
 {
-    hops.clear();
-    let mut at = first;
-    let mut k = levels.len() - 1;
-    while k > 0 {
-        k -= 1;
-        let hop = least_step(
-            terms,
-            &graph.spots,
-            &graph.rows,
-            &graph.unions,
-            at,
-            &levels[k],
-        );
-        hops.push(hop)?;
-        at = hop.to;
+    match descend(terms, graph, levels, first, hops)? {
+        None => Ok(()),
+        Some(_) => unreachable!(),
     }
-    Ok(())
 }
 
 /// The steps of a walk, without their places in the terms.

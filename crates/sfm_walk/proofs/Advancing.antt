@@ -28,7 +28,7 @@ use Rattle.sfm_exchange.proofs.Following.{length-steps_of, depth_has, depth_le, 
 module _ (terms : List Meaning) (rows : List (List ℤ)) (n : ℕ) (q : ℤ) (shift z : List ℤ) (low : pos 0 ≤ℤ q) (fit : AreTerms n terms) (bases : AreBases q terms rows) (zn : length z ≡ n) (rest : IsRest terms shift rows z) (unions : List Bits) (links : HaveLinks terms n q rows unions)
     (levels : List Bits) (first : ℕ) (begin : IsFirst n unions z levels first) where
   -- no step lowers the depth by more than one
-  depth_falls : (from : ℕ) (step : Step) → IsStep terms q rows from step → depth_of levels from ≤ depth_of levels step.to + 1
+  pub depth_falls : (from : ℕ) (step : Step) → IsStep terms q rows from step → depth_of levels from ≤ depth_of levels step.to + 1
   depth_falls from step h = ⊎_elim
       (λ l.
       let has = depth_has levels step.to (omega (arith, l)) in
@@ -40,7 +40,7 @@ module _ (terms : List Meaning) (rows : List (List ℤ)) (n : ℕ) (q : ℤ) (sh
       (λ deep. let b = depth_bound levels from in omega (arith, b, deep))
       (cases_lt (depth_of levels step.to + 1) (length levels))
 
-  over_depth : (e : ℕ) → e < n → pos 0 <ℤ rest_at terms rows shift e → depth_of levels e ≡ 0
+  pub over_depth : (e : ℕ) → e < n → pos 0 <ℤ rest_at terms rows shift e → depth_of levels e ≡ 0
   over_depth e le over =
       let r = rest.exact e (rw zn le) in
       let over' : pos 0 <ℤ get_or z e (pos 0) = rw r over in

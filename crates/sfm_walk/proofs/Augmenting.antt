@@ -1,15 +1,18 @@
 -- What the move along a walk of least steps by the greatest amount makes of the bases and of z.
-use Rattle.std.proofs.Common.{◌≡◌, ◌≢◌, ℕ, zero, suc, ◌*◌, ◌^◌, ◌<◌, List, [], ◌∷◌, length, get_or, nat_eq, ℤ, pos, neg_ℤ, ◌+ℤ◌, ◌-ℤ◌, ◌≤ℤ◌, if◌then◌else◌, refl, sym, ap, ◌∙◌, arith}
+use Rattle.std.proofs.Common.{◌≡◌, ◌≢◌, ◌⊎◌, ℕ, zero, suc, ◌+◌, ◌*◌, ◌^◌, ◌<◌, ◌≤◌, List, [], ◌∷◌, length, get_or, nat_eq, ℤ, pos, neg_ℤ, ◌+ℤ◌, ◌-ℤ◌, ◌≤ℤ◌, if◌then◌else◌, refl, sym, ap, ◌∙◌, arith}
 use Rattle.std.specs.List.{All}
 use Rattle.std.proofs.lemmas.Int.{ints}
 use Rattle.std.proofs.lemmas.List.Elements.{All-get_or, All-from_get_or}
 use Rattle.sfm_spec.specs.Terms.{exchanged}
 use Rattle.sfm_spec.specs.Families.{Meaning, AreTerms, AreBases, rest_at, deficit}
 use Rattle.sfm_spec.specs.Laws.{MoveLaws}
-use Rattle.sfm_spec.specs.Progress.{IsProgress}
-use Rattle.sfm_spec.specs.Walks.{term_at, base_at, IsWalkMove, AllCanMove, last_of}
+use Rattle.sfm_spec.specs.Labels.{HasFull}
+use Rattle.sfm_spec.specs.Progress.{AreLowerBounds, IsProgress}
+use Rattle.sfm_spec.specs.Walks.{term_at, base_at, AreSteps, IsOver, IsWalkMove, AllCanMove, MovesAlong, last_of}
 use Rattle.sfm_spec.proofs.Walks.{terms-at}
-use Rattle.sfm_spec.proofs.LeastWalks.{least_progress}
+use Rattle.sfm_spec.proofs.FewWalks.{bounds_after}
+use Rattle.sfm_spec.proofs.Labels.{falls_all}
+use Rattle.sfm_spec.proofs.LeastWalks.{MeetsWalk, few_steps, least_progress, meets_walk}
 use Rattle.sfm_spec.proofs.Moves.{change_small, full_by_greatest, deficit_at_place}
 use Rattle.sfm_spec.proofs.Gain.{move_laws, rest_moved}
 use Rattle.sfm_spec.proofs.Sums.{length-exchanged}
@@ -86,13 +89,38 @@ module _ {terms : List Meaning} {n : ℕ} {q : ℤ} {shift : List ℤ} {rows : L
     pub in_order : AreInOrder terms q rows first (steps_of hops) a
     in_order = laws.in_order
 
-    -- it is progress, where no greater amount is allowed
+    abbrev along : (after : List (List ℤ)) → IsWalkMove terms rows first (steps_of hops) a after → MovesAlong terms q shift rows after
+    along after moved = record { first = first; steps = steps_of hops; a = a; shortest = w.shortest; some = one; by_steps = can; by_first = by_first; by_last = by_last; moved = moved }
+
+    -- no greater amount is allowed by an end or by a step
+    full : (a ≡ neg_ℤ (rest_at terms rows shift first)) ⊎ ((a ≡ rest_at terms rows shift last) ⊎ HasFull terms q rows first (steps_of hops) a)
+    full = full_by_greatest terms rows n q low fit bases a one shift first (steps_of hops) can by_first by_last
+        (λ b can' under' over'. most.greatest b (rw (rest.exact first first_at) under') (rw (rest.exact last last_at) over') (each_moves terms n q rows fit b first hops w.named can'))
+
+    -- so it is progress
     pub progress : (after : List (List ℤ)) → IsWalkMove terms rows first (steps_of hops) a after → IsProgress terms n q shift rows after
-    progress after moved =
-        least_progress terms rows n q shift low fit bases d w.course.ends w.course.no_faster after
-        (record { first = first; steps = steps_of hops; a = a; shortest = w.shortest; some = one; by_steps = can; by_first = by_first; by_last = by_last; moved = moved }) w.course.least
-        (full_by_greatest terms rows n q low fit bases a one shift first (steps_of hops) can by_first by_last
-        (λ b can' under' over'. most.greatest b (rw (rest.exact first first_at) under') (rw (rest.exact last last_at) over') (each_moves terms n q rows fit b first hops w.named can')))
+    progress after moved = least_progress terms rows n q shift low fit bases d w.course.ends w.course.no_faster after (along after moved) w.course.least full
+
+    -- and the distances stay lower bounds
+    module _ (bounded : (e : ℕ) → d e ≤ n + 1) (after : List (List ℤ)) (moved : IsWalkMove terms rows first (steps_of hops) a after) where
+      fits : AreSteps terms q rows first (steps_of hops)
+      fits = w.shortest.shortest.walk.steps_fit
+
+      near : d first ≤ n
+      near =
+          let f = falls_all d first (steps_of hops) w.course.falls in
+          let z = w.course.ends last w.course.last_in (rw (rest.exact last last_at) at w.course.over) in
+          let k = few_steps terms rows n q low fit bases d first (steps_of hops) w.first_in fits w.course.falls z in
+          omega (arith, f, z, k)
+
+      bounds : AreLowerBounds terms n q rows (IsOver terms rows shift) d (λ e. 0)
+      bounds = record { lasts = w.course.ends; falls = w.course.no_faster; least = λ from step h f. omega arith; bounded = λ e le. bounded e; codes = λ e le. omega arith; far = λ e le is. refl }
+
+      pub meets : MeetsWalk terms rows n q low fit bases (IsOver terms rows shift) d (λ e. 0) first (steps_of hops)
+      meets = meets_walk terms rows n q low fit bases (IsOver terms rows shift) d (λ e. 0) bounds first (steps_of hops) near fits w.course.least
+
+      pub bounds_still : AreLowerBounds terms n q after (IsOver terms after shift) d meets.l'
+      bounds_still = bounds_after terms rows n q shift low fit bases d meets.l' after (record { bounds = meets.bounds; along = along after moved; follows = meets.follows; near = near; full = full })
 
     -- z after the move
     pub rest_after : (after : List (List ℤ)) → IsWalkMove terms rows first (steps_of hops) a after → IsRest terms shift after (exchanged z first (last_of first (steps_of hops)) a)

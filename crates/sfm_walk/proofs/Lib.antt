@@ -8,3 +8,4 @@ pub mod Augmenting
 pub mod Marking
 pub mod Falling
 pub mod Stepping
+pub mod Labelling

@@ -1,4 +1,5 @@
 pub mod Counted
+pub mod Labels
 pub mod Marks
 pub mod Run
 pub mod Spread

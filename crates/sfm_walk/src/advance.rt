@@ -5,7 +5,7 @@
 // than that sum rises, so what entries are at first and how far below 0 that sum is bound all that they come to.
 ghost use Rattle.std.specs.{Prelude.{◌≡◌, ◌+◌, ◌*◌, ◌^◌, ◌≢◌, ◌<◌, ◌≤◌, ℕ, List, pos, neg_ℤ, ◌≤ℤ◌, length, OnOk, IfOk, slice_index_or}, List.{All}};
 ghost use Rattle.sfm_spec.specs.{Sets.{magnitudes}, Bounds.{IsAtMost, IsEntry}, Families.{meanings, rest_at, deficit, AreBases, Prove}, Terms.{exchanged}, Walks.{Step, Joins, few_walks, last_of}};
-ghost use Rattle.sfm_walk.specs.{Counted.{IsCounted}, Run.{AreAdvanced, IsLeastWalk, IsRunAt}, Spread.{AreSpread}};
+ghost use Rattle.sfm_walk.specs.{Counted.{IsCounted}, Labels.{AreLabels}, Run.{AreAdvanced, IsLeastWalk, IsRunAt}, Spread.{AreSpread}};
 ghost use Rattle.sfm_exchange.specs.{Graph.{IsClaimed}, Hops.{steps_of}, Levels.{depth_of}, Signs.{AreMoved, AreSigns}};
 
 use crate::rest::{most_of, move_rest};
@@ -127,6 +127,8 @@ fn advance<T: Term>(
     requires walk { IsLeastWalk (meanings T.places T.value_of terms.now)
         (length _shift.now) q _shift.now graph.old.bases run.old.z.items
         (depth_of run.old.levels.items) run.old.path.first run.old.path.hops.items }
+    requires labels { AreLabels (meanings T.places T.value_of terms.now)
+        (length _shift.now) q _shift.now graph.old.bases run.old.levels.items }
     requires small { All (λ x. All (IsAtMost (5 * 10 ^ 29)) x) graph.old.bases }
     requires gap { neg_ℤ (pos (5 * 10 ^ 29)) ≤ℤ deficit (length _shift.now)
         (rest_at (meanings T.places T.value_of terms.now) graph.old.bases _shift.now) }
@@ -134,6 +136,8 @@ fn advance<T: Term>(
         (length _shift.now) q graph.new) }
     ensures advanced { OnOk result (AreAdvanced (meanings T.places T.value_of terms.now)
         (length _shift.now) q _shift.now graph.old.bases graph.new.bases run.new) }
+    ensures labels { OnOk result (AreLabels (meanings T.places T.value_of terms.now)
+        (length _shift.now) q _shift.now graph.new.bases run.new.levels.items) }
 {
     let last = run.path.last();
     let most = most_of(&run.z, run.path.first, last);
@@ -161,6 +165,7 @@ fn settle(run: &mut Run, a: i128)
         (last_of run.old.path.first (steps_of run.old.path.hops.items)) a) run.old.path.first
         (last_of run.old.path.first (steps_of run.old.path.hops.items))
         → AreSigns run.old.z.items run.old.signs → AreSigns run.new.z.items run.new.signs }
+    ensures levels { run.new.levels.items ≡ run.old.levels.items }
 {
     let last = run.path.last();
     move_rest(&mut run.z, run.path.first, last, a);

@@ -5,6 +5,7 @@
 
 mod advance;
 mod following;
+mod labels;
 mod least;
 mod optimum;
 mod rest;

@@ -1,5 +1,5 @@
-// What a minimisation keeps beside the graph: z and its signs, and the levels and the walk that are found anew each time.
-ghost use Rattle.std.specs.Prelude.{◌≡◌, ◌≤◌, length};
+// What a minimisation keeps beside the graph: z and its signs, the levels of the last search, and the walk that is found.
+ghost use Rattle.std.specs.Prelude.{◌≡◌, ◌≤◌, [], length};
 ghost use Rattle.sfm_exchange.specs.Signs.{AreSigns};
 
 use sfm_exchange::{Bits, Path, Signs, signs_of};
@@ -19,6 +19,7 @@ pub fn run_at(alloc: Global, z: Vec<i128>) -> Run
     requires { length z.items ≤ 256 }
     ensures z { result.z ≡ z }
     ensures signs { AreSigns z.items result.signs }
+    ensures levels { result.levels.items ≡ [] }
 {
     let signs = signs_of(&z);
     Run {

@@ -5,7 +5,7 @@ ghost use Rattle.sfm_spec.specs.{Sets.{Has}, Bounds.{AreBounded, IsEntry, IsFact
 ghost use Rattle.sfm_walk.specs.Marks.{marks_of};
 
 use crate::run::run_at;
-use crate::walk::next_walk;
+use crate::walk::searched_walk;
 use sfm_base::{Memory, Rows, Set};
 use sfm_exchange::{copy_rows, graph_at, steps_along};
 use sfm_law::{Term, Walk, rest_of};
@@ -43,7 +43,7 @@ pub fn shortest<T: Term>(
     let copied = copy_rows(alloc, bases)?;
     let mut graph = graph_at(alloc, terms, to.len(), q, copied)?;
     let mut run = run_at(alloc, z);
-    if !next_walk(alloc, &mut graph, terms, q, &shift, &mut run)? {
+    if !searched_walk(alloc, &mut graph, terms, q, &shift, &mut run)? {
         return Ok(None);
     }
     let first = run.path.first;

@@ -1,12 +1,13 @@
 // The walk that comes next: one of least steps from the first place that a search finds. No walk from there to a place with
 // z > 0 has fewer steps, and each step is the least of those that lead on. The search takes the rows that are claimed as they
 // are: they lack no step, so where all steps of its walk are true ones, it is such a walk, and where it finds none, none joins.
-// Each walk that is refused leaves fewer rows claimed.
+// Each walk that is refused leaves fewer rows claimed. The levels of the walk before are tried first.
 ghost use Rattle.std.specs.{Prelude.{◌≡◌, ◌<◌, ℕ, List, length, true, false, OnOk, IfOk}, List.{All}};
 ghost use Rattle.sfm_spec.specs.{Bounds.{IsEntry}, Families.{meanings}, Walks.{Step, Joins}};
 ghost use Rattle.sfm_exchange.specs.{Levels.{depth_of}, Graph.{IsClaimed}};
-ghost use Rattle.sfm_walk.specs.Run.{IsLeastWalk, IsRunAt};
+ghost use Rattle.sfm_walk.specs.{Labels.{AreLabels}, Run.{IsLeastWalk, IsRunAt}};
 
+use crate::labels::kept_walk;
 use crate::run::Run;
 use sfm_base::Memory;
 use sfm_exchange::{Graph, find_levels, follow, prove_walk};
@@ -27,6 +28,8 @@ pub fn next_walk<T: Term>(
     requires small { All (λ x. All IsEntry x) graph.old.bases }
     requires run { IsRunAt (meanings T.places T.value_of terms.now) _shift.now graph.old.bases
         run.old }
+    requires labels { AreLabels (meanings T.places T.value_of terms.now)
+        (length _shift.now) q _shift.now graph.old.bases run.old.levels.items }
     ensures graph { OnOk result (IsClaimed T.places T.value_of T.size_of T.fits terms.now
         (length _shift.now) q graph.new) }
     ensures bases { OnOk result (graph.new.bases ≡ graph.old.bases) }
@@ -35,6 +38,44 @@ pub fn next_walk<T: Term>(
     ensures walk { IfOk result (λ r. r ≡ true → IsLeastWalk (meanings T.places T.value_of terms.now)
         (length _shift.now) q _shift.now graph.old.bases run.new.z.items
         (depth_of run.new.levels.items) run.new.path.first run.new.path.hops.items) }
+    ensures labels { IfOk result (λ r. r ≡ true → AreLabels
+        (meanings T.places T.value_of terms.now) (length _shift.now) q _shift.now graph.old.bases
+        run.new.levels.items) }
+    ensures ends { IfOk result (λ r. r ≡ false → (first : ℕ) (steps : List Step)
+        → Joins (meanings T.places T.value_of terms.now) q _shift.now graph.old.bases first steps
+        → ⊥) }
+{
+    if kept_walk(alloc, graph, terms, q, _shift, run)? {
+        return Ok(true);
+    }
+    searched_walk(alloc, graph, terms, q, _shift, run)
+}
+
+/// Finds a walk by a search; false where none joins. The bases stay.
+pub(crate) fn searched_walk<T: Term>(
+    alloc: Global,
+    graph: &mut Graph<T::Note>,
+    terms: &[T],
+    q: i128,
+    _shift: &[i128],
+    run: &mut Run,
+) -> Result<bool, Memory>
+    requires graph { IsClaimed T.places T.value_of T.size_of T.fits terms.now
+        (length _shift.now) q graph.old }
+    requires small { All (λ x. All IsEntry x) graph.old.bases }
+    requires run { IsRunAt (meanings T.places T.value_of terms.now) _shift.now graph.old.bases
+        run.old }
+    ensures graph { OnOk result (IsClaimed T.places T.value_of T.size_of T.fits terms.now
+        (length _shift.now) q graph.new) }
+    ensures bases { OnOk result (graph.new.bases ≡ graph.old.bases) }
+    ensures run { OnOk result (IsRunAt (meanings T.places T.value_of terms.now) _shift.now
+        graph.old.bases run.new) }
+    ensures walk { IfOk result (λ r. r ≡ true → IsLeastWalk (meanings T.places T.value_of terms.now)
+        (length _shift.now) q _shift.now graph.old.bases run.new.z.items
+        (depth_of run.new.levels.items) run.new.path.first run.new.path.hops.items) }
+    ensures labels { IfOk result (λ r. r ≡ true → AreLabels
+        (meanings T.places T.value_of terms.now) (length _shift.now) q _shift.now graph.old.bases
+        run.new.levels.items) }
     ensures ends { IfOk result (λ r. r ≡ false → (first : ℕ) (steps : List Step)
         → Joins (meanings T.places T.value_of terms.now) q _shift.now graph.old.bases first steps
         → ⊥) }

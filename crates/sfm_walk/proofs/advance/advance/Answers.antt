@@ -8,8 +8,9 @@ use Rattle.sfm_exchange.specs.Hops.{steps_of}
 use Rattle.sfm_exchange.specs.Levels.{depth_of}
 use Rattle.sfm_walk.specs.Run.{IsGreatest}
 use Rattle.sfm_walk.proofs.Advancing.{entries_small}
-use Rattle.sfm_walk.proofs.Augmenting.{amount_small, apart, ends_moved, first_at, in_order, last_at, progress, rest_after, spread}
+use Rattle.sfm_walk.proofs.Augmenting.{amount_small, apart, bounds_still, ends_moved, first_at, in_order, last_at, progress, rest_after, spread}
 use Rattle.sfm_exchange.proofs.ClaimedGraphs.{are_terms, low, own}
+use Rattle.sfm_exchange.proofs.Following.{depth_bound}
 use Rattle.sfm_exchange.proofs.Still.{over_word}
 use Rattle.sfm_walk.proofs.advance.advance.Given as given
 use Rattle.sfm_walk.proofs.advance.advance.Goals as goal
@@ -160,3 +161,17 @@ pub settle-requires-clause-over : goal.settle-requires-clause-over
 settle-requires-clause-over g c =
     let fa : FitsSigned w128 c.in_ok-a.a = search rules in
     simp to_z-of_z (greatest g (goal.at.settle-requires-clause-over g c).In_ok-a).over
+
+pub returns-clause-labels : goal.returns-clause-labels
+returns-clause-labels g c =
+    let m = g.met.T.Term in
+    let fq : FitsSigned w128 c.args.q = c.ranges.q in
+    let fa : FitsSigned w128 c.in_ok-a.a = search rules in
+    let h = c.requires.graph in
+    let rest = c.requires.run.is_rest in
+    let most = greatest g (goal.at.returns-clause-labels g c).In_ok-a in
+    let labels = c.requires.labels in
+    let moved = rw c.in_ok-a.ensures.bases at (simp to_z-of_z at c.in_ok-move_along.ensures.moved) in
+    let bounds = bounds_still c.requires.walk rest.places rest (low h) (are_terms h m.family m.submodular) h.are_bases c.in_ok-a.a most
+    (λ e. let b = depth_bound c.args.run.now.levels.items e in let f = labels.few in omega (arith, b, f)) c.move_along.new.graph.bases moved in
+    rw c.settle.ensures.levels (record { parted = labels.parted; few = labels.few; no_faster = bounds.falls; ends = bounds.lasts })

@@ -7,6 +7,7 @@ use Rattle.sfm_spec.proofs.LeastWalks.{few_walks_small}
 use Rattle.sfm_spec.proofs.Proving.{prove_if_none}
 use Rattle.sfm_spec.proofs.Walks.{bases-at}
 use Rattle.sfm_walk.proofs.Counting.{IsCounting, counting_none, counting_more, counting_few, counting_is}
+use Rattle.sfm_walk.proofs.Labelling.{labels_none}
 use Rattle.sfm_walk.proofs.Improving.{IsImproving, falls, gap_still, improving_after, small_still}
 use Rattle.sfm_walk.proofs.Spreads.{bound_is}
 use Rattle.sfm_exchange.proofs.ClaimedGraphs.{are_terms, base_count, counted, low}
@@ -51,7 +52,7 @@ loop-run-init g c =
       risen = omega (arith, ints);
       spread = λ b small. bound_is init b (b +ℤ (D -ℤ D)) small (omega (arith, ints));
     } in
-    simp to_z-of_z (start, omega arith, counting_none ts (length shift) c.args.q shift init c.args.steps.now, omega arith)
+    simp to_z-of_z (start, omega arith, counting_none ts (length shift) c.args.q shift init c.args.steps.now, omega arith, rw c.run_at-run.ensures.levels (labels_none ts (length shift) c.args.q shift init))
 
 pub next_walk-requires-clause-graph : goal.next_walk-requires-clause-graph
 next_walk-requires-clause-graph g c = c.loop-run.invariant.0.whole
@@ -101,7 +102,7 @@ loop-run-preserved g c =
     let after = c.advance.new.graph.bases in
     let next = improving_after inv.0 m.family m.submodular c.advance.new.graph c.advance.new.run advanced (simp to_z-of_z at e.graph) in
     let counting : IsCounting ts n c.args.q shift init after c.args.steps.now c.tick.new.self = counting_more ts n c.args.q shift init c.loop-run.graph.bases after c.args.steps.now c.loop-run.steps c.tick.new.self inv.2 advanced.progress c.tick.ensures in
-    simp to_z-of_z (next, omega (arith, c.loop-run.invariant.1, c.tick.ensures), counting, counting_few ts n (length c.args.terms.now) c.args.q shift init after c.args.steps.now c.tick.new.self (counted c.requires.graph) counting)
+    simp to_z-of_z (next, omega (arith, c.loop-run.invariant.1, c.tick.ensures), counting, counting_few ts n (length c.args.terms.now) c.args.q shift init after c.args.steps.now c.tick.new.self (counted c.requires.graph) counting, simp to_z-of_z at e.labels)
 
 pub tick-requires : goal.tick-requires
 tick-requires g c =
@@ -182,3 +183,11 @@ rest_of-requires-clause-shifts g c = let shifts = c.requires.shifts in omega (ar
 
 pub rest_of-requires-clause-small : goal.rest_of-requires-clause-small
 rest_of-requires-clause-small g c = λ k d l i e lt. let s = c.requires.small k d l i e lt in record { low = omega (arith, ints, s.low); high = omega (arith, ints, s.high) }
+
+pub next_walk-requires-clause-labels : goal.next_walk-requires-clause-labels
+next_walk-requires-clause-labels g c = let fq : FitsSigned w128 c.args.q = c.ranges.q in c.loop-run.invariant.4
+
+pub advance-requires-clause-labels : goal.advance-requires-clause-labels
+advance-requires-clause-labels g c =
+    let fq : FitsSigned w128 c.args.q = c.ranges.q in
+    rw c.in_ok-next_walk.ensures.bases (c.in_ok-next_walk.ensures.labels c.if-branch.true)

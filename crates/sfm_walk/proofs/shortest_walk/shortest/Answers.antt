@@ -71,20 +71,20 @@ rest_of-requires-clause-shifts g c =
     let at = (goal.at.rest_of-requires-clause-shifts g c).After-deref in
     marks_small c.args.to.now c.args.from c.deref.result.now (marked g at) c.requires.bounded.few
 
-pub next_walk-requires-clause-graph : goal.next_walk-requires-clause-graph
-next_walk-requires-clause-graph g c =
+pub searched_walk-requires-clause-graph : goal.searched_walk-requires-clause-graph
+searched_walk-requires-clause-graph g c =
     let fq : FitsSigned w128 c.args.q = c.ranges.q in
     let r = c.requires in
-    let at = (goal.at.next_walk-requires-clause-graph g c).After-deref-2 in
+    let at = (goal.at.searched_walk-requires-clause-graph g c).After-deref-2 in
     let exact = rw c.len.ensures at (simp to_z-of_z at c.in_ok-graph.ensures.graph) in
     rw (known g at).count (simp to_z-of_z
     (whole_claimed (record { bounded = r.bounded; factor = r.factor; exact = exact })))
 
-pub next_walk-requires-clause-run : goal.next_walk-requires-clause-run
-next_walk-requires-clause-run g c =
+pub searched_walk-requires-clause-run : goal.searched_walk-requires-clause-run
+searched_walk-requires-clause-run g c =
     let t = g.T.Term in
     let r = c.requires in
-    let k = known g (goal.at.next_walk-requires-clause-run g c).After-deref-2 in
+    let k = known g (goal.at.searched_walk-requires-clause-run g c).After-deref-2 in
     let ts = meanings t.places t.value_of c.args.terms.now in
     let back = turned ts c.args.bases.now (length c.args.to.now) c.args.q k.low k.fit r.bases
     c.args.to.now c.args.from c.deref.result.now c.deref-2.result.now refl r.from r.apart
@@ -103,7 +103,7 @@ returns-then-not-branch g c =
     let k = known g (goal.at.returns-then-not-branch g c).After-deref-2 in
     let ts = meanings t.places t.value_of c.args.terms.now in
     let none = simp to_z-of_z at (rw (c.in_ok-graph.ensures.bases, c.in_ok-copied.ensures)
-    at (c.in_ok-next_walk.ensures.ends c.if-not-branch.true)) in
+    at (c.in_ok-searched_walk.ensures.ends c.if-not-branch.true)) in
     none_leads ts c.args.bases.now (length c.args.to.now) c.args.q k.low k.fit r.bases
     c.args.to.now c.args.from c.deref.result.now c.deref-2.result.now refl r.from r.apart
     k.marks k.shifted none
@@ -115,9 +115,9 @@ returns g c =
     let r = c.requires in
     let k = known g (goal.at.returns g c).After-deref-2 in
     let ts = meanings t.places t.value_of c.args.terms.now in
-    let run = c.next_walk.new.run in
+    let run = c.searched_walk.new.run in
     let walk = simp to_z-of_z at (rw (c.in_ok-graph.ensures.bases, c.in_ok-copied.ensures)
-    at (c.in_ok-next_walk.ensures.walk c.if-not-branch.false)) in
+    at (c.in_ok-searched_walk.ensures.walk c.if-not-branch.false)) in
     rw (c.in_ok-steps.ensures, c.deref-3.ensures.value)
     (one_leads ts c.args.bases.now (length c.args.to.now) c.args.q k.low k.fit r.bases
     c.args.to.now c.args.from c.deref.result.now c.deref-2.result.now refl r.from r.apart

@@ -4,7 +4,7 @@ use Rattle.sfm_spec.specs.Families.{meanings}
 use Rattle.sfm_exchange.specs.Claimed.{claims_of}
 use Rattle.sfm_exchange.specs.Graph.{IsClaimed}
 use Rattle.sfm_walk.specs.Run.{IsRunAt}
-use Rattle.sfm_walk.proofs.walk.next_walk.Given as goal
+use Rattle.sfm_walk.proofs.walk.searched_walk.Given as goal
 
 abbrev pub invariant-loop-first : goal.invariant-loop-first
 invariant-loop-first g l = let t = g.T.Term in IsClaimed t.places t.value_of t.size_of t.fits l.terms (length l._shift) l.q l.graph

@@ -12,9 +12,10 @@ use Rattle.sfm_exchange.proofs.Still.{over_word}
 use Rattle.sfm_exchange.proofs.Joining.{none_joins}
 use Rattle.sfm_reach.proofs.Options.{match_none, match_some}
 use Rattle.sfm_walk.proofs.Advancing.{least_walk, sought_walk}
-use Rattle.sfm_walk.proofs.walk.next_walk.Given as given
-use Rattle.sfm_walk.proofs.walk.next_walk.Goals as goal
-use Rattle.sfm_walk.proofs.walk.next_walk.Goals.{In-Some}
+use Rattle.sfm_walk.proofs.Labelling.{labels_found}
+use Rattle.sfm_walk.proofs.walk.searched_walk.Given as given
+use Rattle.sfm_walk.proofs.walk.searched_walk.Goals as goal
+use Rattle.sfm_walk.proofs.walk.searched_walk.Goals.{In-Some}
 
 -- the place that the search found is the first of a walk
 is_first : (g : given.Over) (c : In-Some g) → IsFirst (length c.args._shift.now) c.loop-first.graph.unions.items c.loop-first.run.z.items c.find_levels.new.levels.items c.in-Some.first
@@ -144,3 +145,16 @@ returns-clause-walk g c = λ yes. absurd (false≢true yes)
 
 pub returns-then-proved-clause-ends : goal.returns-then-proved-clause-ends
 returns-then-proved-clause-ends g c = λ no. absurd (false≢true (sym no))
+
+pub returns-then-proved-clause-labels : goal.returns-then-proved-clause-labels
+returns-then-proved-clause-labels g c = λ _.
+    let m = g.met.T.Term in
+    let fq : FitsSigned w128 c.args.q = c.ranges.q in
+    let inv = simp to_z-of_z at c.loop-first.invariant in
+    let h = inv.0 in
+    let fit = are_terms h m.family m.submodular in
+    let rest : IsRest (meanings g.T.Term.places g.T.Term.value_of c.args.terms.now) c.args._shift.now c.loop-first.graph.bases c.loop-first.run.z.items = rw inv.1 inv.2.is_rest in
+    rw inv.1 at (labels_found _ _ _ _ _ _ (low h) fit h.are_bases c.loop-first.graph.unions.items (have_links h fit) rest.places rest c.find_levels.new.levels.items c.in-Some.first (is_first g (goal.at.returns-then-proved-clause-labels g c).In-Some))
+
+pub returns-clause-labels : goal.returns-clause-labels
+returns-clause-labels g c = λ yes. absurd (false≢true yes)

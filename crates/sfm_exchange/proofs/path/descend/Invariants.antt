@@ -6,7 +6,7 @@ use Rattle.sfm_spec.specs.Walks.{last_of}
 use Rattle.sfm_reach.specs.Bits.{bit_in, set_at}
 use Rattle.sfm_exchange.specs.Levels.{depth_of}
 use Rattle.sfm_exchange.specs.Hops.{AreHops, AreLeast, steps_of}
-use Rattle.sfm_exchange.proofs.path.follow.Given as goal
+use Rattle.sfm_exchange.proofs.path.descend.Given as goal
 
 abbrev pub invariant-loop-k : goal.invariant-loop-k
 invariant-loop-k g l = let t = g.T.Term in (l.k < length l.levels)
