@@ -6,3 +6,4 @@ pub mod Joining
 pub mod Changing
 pub mod Filling
 pub mod Counting
+pub mod Rowing

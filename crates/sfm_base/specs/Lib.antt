@@ -1,4 +1,5 @@
 pub mod Lending
 pub mod NumberText
 pub mod Page
+pub mod Rows
 pub mod Words

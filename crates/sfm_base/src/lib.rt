@@ -2,6 +2,7 @@
 // reader of numbers. Each is seen by contracts as a list or a number, and each call is the plain operation on it.
 #![tactic(auto)]
 
+mod lists;
 mod memory;
 mod number_text;
 mod numbers;
@@ -13,6 +14,7 @@ mod slope;
 mod steps;
 mod words;
 
+pub use lists::Lists;
 pub use memory::Memory;
 pub use number_text::read_number;
 pub use numbers::Numbers;

@@ -1,6 +1,6 @@
 // A page takes bytes at its end. Its room is made first, by a call that can be refused, so that what is put in it later
 // takes no memory. The bytes and the room that is left never exceed what was reserved.
-ghost use Rattle.std.specs.Prelude.{◌≡◌, ◌-◌, ◌≤◌, [], ◌++◌, length, OnOk, OnErr};
+ghost use Rattle.std.specs.Prelude.{◌≡◌, ◌-◌, ◌≤◌, [], ◌∷◌, ◌++◌, length, OnOk, OnErr};
 ghost use Rattle.sfm_base.specs.Page.{PageData};
 
 use crate::Memory;
@@ -63,6 +63,19 @@ impl Page {
     {
         self.bytes.extend_from_slice(bytes).unwrap();
         self.spare -= bytes.len();
+    }
+
+    /// Puts one byte at the end. It takes no memory.
+    #[inline(always)]
+    pub fn put_byte(&mut self, byte: u8)
+        requires { 1 ≤ self.old.spare }
+        ensures { self.new ≡ record {
+          bytes = self.old.bytes ++ byte ∷ [];
+          spare = self.old.spare - 1;
+        } }
+    {
+        self.bytes.push(byte).unwrap();
+        self.spare -= 1;
     }
 
     /// How many further bytes there is room for.

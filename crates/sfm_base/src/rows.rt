@@ -1,23 +1,31 @@
-// Rows of numbers, one for each term: a list that grows at its end, and whose rows can be written in place.
-ghost use Rattle.std.specs.{Prelude.{◌≡◌, ◌<◌, List, ℤ, length, slice_index_or, is_ok, [], ◌∷◌, ◌++◌, ◌==◌, if◌then◌else◌}, Borrow.{sem}};
-ghost use Rattle.sfm_base.specs.Lending.{LendsRow};
+// Rows of numbers, one for each term: a list that grows at its end, and whose numbers can be exchanged. All numbers lie in
+// one list, one row behind the other, and another one tells where each row ends: so rows take no memory each, and are copied
+// at once.
+ghost use Rattle.std.specs.{Prelude.{◌≡◌, ◌≢◌, ◌<◌, ◌≤◌, ◌-◌, ◌*◌, ◌^◌, ℤ, true, pos, ◌*ℤ◌, length, map, take, drop, slice_index_or, slice_set, is_ok, IfOk, [], ◌∷◌, ◌++◌, ◌==◌, if◌then◌else◌}, List.{All}};
+ghost use Rattle.sfm_spec.specs.{Bounds.{IsAtMost, IsFactor}, Terms.{exchanged}};
 
-use crate::{Memory, Numbers};
+use crate::Memory;
 use std::alloc::Global;
 use std::marker::Model;
 
 /// Rows of numbers, seen as a list of lists.
 #[derive(Drop)]
 pub struct Rows {
-    rows: Vec<Numbers>,
+    // The rows, one behind the other.
+    numbers: Vec<i128>,
+    // Where each row ends.
+    ends: Vec<usize>,
 }
 
 impl Model for Rows {
-    ghost use Rattle.std.specs.Prelude.{List, ℤ};
+    ghost use Rattle.std.specs.Prelude.{List, ℤ, length};
+    ghost use Rattle.sfm_base.specs.Rows.{AreEnds, rows_from};
 
     ghost Value = { List (List ℤ) };
 
-    ghost view = { λ s. s.rows.items };
+    ghost view = { λ s. rows_from 0 s.ends.items s.numbers.items };
+
+    ghost invariant = { λ s. AreEnds 0 s.ends.items (length s.numbers.items) };
 }
 
 impl Rows {
@@ -26,22 +34,49 @@ impl Rows {
         ensures { result ≡ [] }
     {
         Rows {
-            rows: Vec::new(alloc),
+            numbers: Vec::new(alloc),
+            ends: Vec::new(alloc),
         }
+    }
+
+    /// No rows, with room for so many, with so many numbers in all.
+    ///
+    /// # Errors
+    ///
+    /// `Memory` where there is none.
+    pub fn with_room(alloc: Global, rows: usize, numbers: usize) -> Result<Rows, Memory>
+        ensures { IfOk result (λ r. r ≡ []) }
+    {
+        let numbers = Vec::with_capacity(alloc, numbers)?;
+        let ends = Vec::with_capacity(alloc, rows)?;
+        Ok(Rows { numbers, ends })
+    }
+
+    /// The same rows once more.
+    ///
+    /// # Errors
+    ///
+    /// `Memory` where there is none.
+    pub fn copy(&self, alloc: Global) -> Result<Rows, Memory>
+        ensures { IfOk result (λ r. r ≡ self.now) }
+    {
+        let numbers = Vec::from_slice(alloc, &self.numbers)?;
+        let ends = Vec::from_slice(alloc, &self.ends)?;
+        Ok(Rows { numbers, ends })
     }
 
     /// How many rows there are.
     pub fn len(&self) -> usize
         ensures { result ≡ length self.now }
     {
-        self.rows.len()
+        self.ends.len()
     }
 
     /// Whether there is no row.
     pub fn is_empty(&self) -> bool
         ensures { result ≡ (length self.now == 0) }
     {
-        self.rows.is_empty()
+        self.ends.is_empty()
     }
 
     /// Puts a row at the end.
@@ -49,10 +84,13 @@ impl Rows {
     /// # Errors
     ///
     /// `Memory` where there is none; the rows are then as they were.
-    pub fn push(&mut self, row: Vec<i128>) -> Result<(), Memory>
-        ensures { self.new ≡ (if is_ok result then self.old ++ row.items ∷ [] else self.old) }
+    pub fn push(&mut self, row: &[i128]) -> Result<(), Memory>
+        ensures { self.new ≡ (if is_ok result then self.old ++ row.now ∷ [] else self.old) }
     {
-        self.rows.push(Numbers::from_vec(row))?;
+        self.ends.reserve(1)?;
+        self.numbers.extend_from_slice(row)?;
+        let end = self.numbers.len();
+        self.ends.push(end).unwrap();
         Ok(())
     }
 
@@ -61,17 +99,98 @@ impl Rows {
         requires { i < length self.now }
         ensures { result.now ≡ slice_index_or self.now i [] }
     {
-        let row = &self.rows[i];
-        row.as_slice()
+        let begin = begin_of(&self.ends, i);
+        between(&self.numbers, begin, self.ends[i])
     }
 
-    /// The row i, to be written.
-    pub fn row_mut(&mut self, i: usize) -> &mut [i128]
-        requires { i < length self.old }
-        ensures* writes_back { sem 𝓛 (LendsRow self.entry i result) }
-        ensures value { result.now ≡ slice_index_or self.old i [] }
+    /// Raises number u of row i by an amount, and lowers number v by it.
+    pub fn exchange(&mut self, i: usize, u: usize, v: usize, a: i128)
+        requires inside { i < length self.old }
+        requires from { u < length (slice_index_or self.old i []) }
+        requires onto { v < length (slice_index_or self.old i []) }
+        requires apart { u ≢ v }
+        requires one { IsAtMost (2 * 10 ^ 30) (slice_index_or (slice_index_or self.old i []) u
+            (pos 0)) }
+        requires other { IsAtMost (2 * 10 ^ 30) (slice_index_or (slice_index_or self.old i []) v
+            (pos 0)) }
+        requires amount { IsAtMost (2 * 10 ^ 30) a }
+        ensures { self.new ≡ slice_set self.old i (exchanged (slice_index_or self.old i []) u v a) }
     {
-        let row = &mut self.rows[i];
-        row.as_mut_slice()
+        let begin = begin_of(&self.ends, i);
+        self.numbers[begin + u] += a;
+        self.numbers[begin + v] -= a;
     }
+
+    /// Each number times another one.
+    ///
+    /// # Errors
+    ///
+    /// `Memory` where there is none.
+    pub fn times(&self, alloc: Global, q: i128) -> Result<Rows, Memory>
+        requires factor { IsFactor q }
+        requires small { All (λ x. All (IsAtMost (10 ^ 21)) x) self.now }
+        ensures { IfOk result (λ r. r ≡ map (λ x. map (λ a. q *ℤ a) x) self.now) }
+    {
+        let mut numbers = Vec::with_capacity(alloc, self.numbers.len())?;
+        for a in &self.numbers {
+            numbers.push(q * *a)?;
+        }
+        let ends = Vec::from_slice(alloc, &self.ends)?;
+        Ok(Rows { numbers, ends })
+    }
+
+    /// Whether other rows are a number of times these, where no number of these is too large to tell.
+    pub fn are_times(&self, q: i128, others: &Rows) -> bool
+        requires { IsFactor q }
+        ensures { result ≡ true → others.now ≡ map (λ x. map (λ a. q *ℤ a) x) self.now }
+    {
+        self.ends.as_slice() == others.ends.as_slice()
+            && are_multiples(q, &self.numbers, &others.numbers)
+    }
+}
+
+// Whether each of some numbers is q times the one in its place, where none of these is too large to tell.
+fn are_multiples(q: i128, x: &[i128], y: &[i128]) -> bool
+    requires { IsFactor q }
+    ensures { result ≡ true → y.now ≡ map (λ a. q *ℤ a) x.now }
+{
+    if x.len() != y.len() {
+        return false;
+    }
+    for (j, a) in x.iter().enumerate() {
+        if !is_multiple(q, *a, y[j]) {
+            return false;
+        }
+    }
+    true
+}
+
+// Whether b is q times a, where a is not too large to tell.
+fn is_multiple(q: i128, a: i128, b: i128) -> bool
+    requires { IsFactor q }
+    ensures { result ≡ true → b ≡ q *ℤ a }
+{
+    if a.unsigned_abs() > 1_000_000_000_000_000_000_000 {
+        return false;
+    }
+    q * a == b
+}
+
+// Where row i begins.
+#[inline(always)]
+pub(crate) fn begin_of(ends: &[usize], i: usize) -> usize
+    requires { i < length ends.now }
+    ensures { result ≡ slice_index_or (0 ∷ ends.now) i 0 }
+{
+    if i == 0 { 0 } else { ends[i - 1] }
+}
+
+// The numbers from one place up to another.
+#[inline(always)]
+fn between(numbers: &[i128], begin: usize, end: usize) -> &[i128]
+    requires order { begin ≤ end }
+    requires within { end ≤ length numbers.now }
+    ensures { result.now ≡ take (end - begin) (drop begin numbers.now) }
+{
+    &numbers[begin..end]
 }

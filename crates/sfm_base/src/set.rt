@@ -2,7 +2,7 @@
 // in the set, so each call is the operation on that list. It is kept as words of 64 places each, and what is done with all
 // places goes word by word. The bits past the ground are 0, so that counts and tests of words need no care for the last.
 // After it is made, a set takes no more memory.
-ghost use Rattle.std.specs.Prelude.{◌≡◌, ◌↔◌, ℕ, ◌<◌, Bool, true, false, List, length, slice_index, slice_index_or, slice_set, IfOk, IsTrue, MatchOption};
+ghost use Rattle.std.specs.Prelude.{◌≡◌, ◌↔◌, ℕ, ◌<◌, Bool, true, false, List, length, slice_index, slice_index_or, slice_set, IfOk, OnOk, IsTrue, MatchOption};
 ghost use Rattle.sfm_spec.specs.Sets.{Has, empty_set, whole_set, union, intersection, complement, size, part, IsWithin};
 ghost use Rattle.sfm_base.specs.Words.{members, AreWords, joined};
 
@@ -89,10 +89,48 @@ impl Set {
         ensures { IfOk result (λ s. s ≡ part places.now self.now) }
     {
         let mut part = Set::empty(alloc, places.len())?;
-        for (j, place) in places.iter().enumerate() {
-            part.put(j, self.contains(*place));
-        }
+        part.put_part(self, places);
         Ok(part)
+    }
+
+    /// Makes of the set the part of another one at the places of a term. It takes no memory where it has as many words already.
+    ///
+    /// # Errors
+    ///
+    /// `Memory` where there is none.
+    pub fn take_part(&mut self, alloc: Global, whole: &Set, places: &[usize]) -> Result<(), Memory>
+        requires { (j : ℕ) → j < length places.now → slice_index places.now j < length whole.now }
+        ensures { OnOk result (self.new ≡ part places.now whole.now) }
+    {
+        self.restart(alloc, places.len())?;
+        self.put_part(whole, places);
+        Ok(())
+    }
+
+    // Makes of the set that with no place, of a ground of n.
+    fn restart(&mut self, alloc: Global, n: usize) -> Result<(), Memory>
+        ensures { OnOk result (self.new ≡ empty_set n) }
+    {
+        if self.words.len() == n.div_ceil(64) {
+            self.words.fill(0);
+            self.n = n;
+        } else {
+            self.words = vec![in alloc; 0u64; n.div_ceil(64)]?;
+            self.n = n;
+        }
+        Ok(())
+    }
+
+    // Puts in of the places of a term, by its local places, those that another set has, and takes the others out.
+    fn put_part(&mut self, whole: &Set, places: &[usize])
+        requires places { length self.old ≡ length places.now }
+        requires inside { (j : ℕ) → j < length places.now
+            → slice_index places.now j < length whole.now }
+        ensures { self.new ≡ part places.now whole.now }
+    {
+        for (j, place) in places.iter().enumerate() {
+            self.put(j, whole.contains(*place));
+        }
     }
 
     /// How many places the ground has.

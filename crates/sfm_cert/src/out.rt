@@ -1,7 +1,7 @@
 // Where the text of an answer goes. One walk over an answer makes its text, piece by piece; run over a gauge it tells how
 // long the text is, and run over a page it writes the text. Two pieces do what the longer piece does that they make, so it
 // is known what the whole text does.
-ghost use Rattle.std.specs.{Prelude.{◌≡◌, ◌-◌, ◌^◌, List, [], ◌++◌, ℕ, length}, Fmt.{signed_decimal}};
+ghost use Rattle.std.specs.{Prelude.{◌≡◌, ◌-◌, ◌^◌, List, [], ◌∷◌, ◌++◌, ℕ, length}, Fmt.{signed_decimal}};
 ghost use Rattle.sfm_cert.specs.Pages.{after_page, page_nothing, page_joined, left_nothing, left_joined};
 
 use crate::width::width;
@@ -17,6 +17,10 @@ pub trait Out {
     /// Takes a piece, or as much of it as there is room for.
     fn put(&mut self, piece: &[u8])
         ensures { self.new ≡ after self.old piece.now };
+
+    /// Takes one byte, or none where there is no room.
+    fn put_byte(&mut self, byte: u8)
+        ensures { self.new ≡ after self.old (byte ∷ []) };
 
     /// Takes the text of a number.
     fn put_signed(&mut self, a: i128)
@@ -64,6 +68,10 @@ impl Out for Gauge {
         self.left = self.left.saturating_sub(piece.len());
     }
 
+    fn put_byte(&mut self, _byte: u8) {
+        self.left = self.left.saturating_sub(1);
+    }
+
     fn put_signed(&mut self, a: i128) {
         self.left = self.left.saturating_sub(width(a));
     }
@@ -81,11 +89,25 @@ fn put_upto(page: &mut Page, piece: &[u8])
     page.put(&piece[..count]);
 }
 
+/// Puts a byte at the end of a page, where there is room for it.
+#[inline(always)]
+fn put_byte_upto(page: &mut Page, byte: u8)
+    ensures { page.new ≡ after_page page.old (byte ∷ []) }
+{
+    if page.spare() > 0 {
+        page.put_byte(byte);
+    }
+}
+
 impl Out for Page {
     ghost after = { after_page };
 
     fn put(&mut self, piece: &[u8]) {
         put_upto(self, piece);
+    }
+
+    fn put_byte(&mut self, byte: u8) {
+        put_byte_upto(self, byte);
     }
 
     fn put_signed(&mut self, a: i128) {

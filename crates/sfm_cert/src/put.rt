@@ -16,7 +16,7 @@ use sfm_law::Break;
 fn put_name<O: Out>(out: &mut O, name: &[u8])
     ensures { out.new ≡ O.after out.old (32 ∷ name.now) }
 {
-    out.put(b" ");
+    out.put_byte(b' ');
     out.put(name);
 }
 
@@ -51,7 +51,7 @@ fn put_count<O: Out>(out: &mut O, n: usize)
 fn put_entry<O: Out>(out: &mut O, a: i128)
     ensures { out.new ≡ O.after out.old (32 ∷ signed_decimal a) }
 {
-    out.put(b" ");
+    out.put_byte(b' ');
     put_number(out, a);
 }
 
@@ -70,7 +70,7 @@ fn put_counts<O: Out>(out: &mut O, counts: &[usize])
     ensures { out.new ≡ O.after out.old (counted counts.now) }
 {
     for n in counts {
-        out.put(b" ");
+        out.put_byte(b' ');
         put_count(out, *n);
     }
 }
@@ -80,7 +80,7 @@ fn put_slope<O: Out>(out: &mut O, num: i128, den: i128)
     ensures { out.new ≡ O.after out.old (slope_text num den) }
 {
     put_number(out, num);
-    out.put(b"/");
+    out.put_byte(b'/');
     put_number(out, den);
 }
 
@@ -95,7 +95,7 @@ fn put_block<O: Out>(out: &mut O, instance: &Instance, number: usize, block: &Bl
     put_names(out, instance, &block.members);
     out.put(b" :");
     put_counts(out, &block.needs);
-    out.put(b"\n");
+    out.put_byte(b'\n');
 }
 
 /// A line for each block, numbered from 1.
@@ -119,7 +119,7 @@ fn put_break<O: Out>(out: &mut O, instance: &Instance, b: &Break)
     out.put(b"slope ");
     put_slope(out, b.slope.num, b.slope.den);
     put_names(out, instance, &b.set);
-    out.put(b"\n");
+    out.put_byte(b'\n');
 }
 
 /// A line for each slope.
@@ -140,7 +140,7 @@ fn put_label<O: Out>(out: &mut O, spot: Spot)
 {
     put_count(out, spot.before + 1);
     if spot.layer > 0 {
-        out.put(b".");
+        out.put_byte(b'.');
         put_count(out, spot.layer);
     }
 }
@@ -154,7 +154,7 @@ fn put_row<O: Out>(out: &mut O, word: &[u8], spot: Spot, row: &[i128])
     out.put(word);
     put_label(out, spot);
     put_numbers(out, row);
-    out.put(b"\n");
+    out.put_byte(b'\n');
 }
 
 /// A line for each term: a word, its label, and the entries of its row.
@@ -188,6 +188,6 @@ pub fn put_section<O: Out>(out: &mut O, instance: &Instance, slope: &Slope, base
         slope.now.den bases.now)) }
 {
     put_at(out, slope);
-    out.put(b"\n");
+    out.put_byte(b'\n');
     put_rows(out, instance, b"base ", bases);
 }

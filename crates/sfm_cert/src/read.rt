@@ -84,7 +84,7 @@ fn read_rows(
     let mut rows = Rows::new(alloc);
     for term in instance.terms() {
         let numbers = read_base(alloc, text, cursor, spot, term.elements().len())?;
-        rows.push(numbers)?;
+        rows.push(&numbers)?;
         spot = spot.next(lines);
     }
     Ok(rows)

@@ -28,8 +28,9 @@ fn sum_of(alloc: Global, terms: &[Kind], set: &Set) -> Result<Option<i128>, Memo
         × (a ≡ sum_at (meanings kind_places kind_value terms.now) set.now))) }
 {
     let mut sum = 0;
+    let mut part = Set::empty(alloc, 0)?;
     for term in terms {
-        let part = set.part(alloc, term.elements())?;
+        part.take_part(alloc, set, term.elements())?;
         match term.value(alloc, &part)? {
             Some(value) => sum += value,
             None => return Ok(None),

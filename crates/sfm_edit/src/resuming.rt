@@ -42,7 +42,7 @@ fn first_rows(alloc: Global, terms: &[Kind], kept: &Origins, rows: &Rows) -> Res
     let mut firsts = Rows::new(alloc);
     for j in 0..terms.len() {
         let row = first_row(alloc, &terms[j], kept.at(j), rows)?;
-        firsts.push(row)?;
+        firsts.push(&row)?;
     }
     Ok(firsts)
 }

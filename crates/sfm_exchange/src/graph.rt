@@ -161,18 +161,3 @@ pub fn restart<T: Term>(
     graph.back = turned_of(alloc, &graph.unions)?;
     Ok(())
 }
-
-/// The same rows once more.
-///
-/// # Errors
-///
-/// `Memory` where there is none.
-pub fn copy_rows(alloc: Global, rows: &Rows) -> Result<Rows, Memory>
-    ensures { IfOk result (λ r. r ≡ rows.now) }
-{
-    let mut copied = Rows::new(alloc);
-    for i in 0..rows.len() {
-        copied.push(Vec::from_slice(alloc, rows.row(i))?)?;
-    }
-    Ok(copied)
-}

@@ -15,7 +15,7 @@ mod renewing;
 mod signs;
 
 pub use claims::{prove_walk, walked_from};
-pub use graph::{Graph, copy_rows, graph_at, restart};
+pub use graph::{Graph, graph_at, restart};
 pub use levels::find_levels;
 pub use moving::{amount_of, move_along};
 pub use multiples::{Beside, copy_graph, graph_by, restart_by, restart_times};

@@ -10,7 +10,7 @@ use crate::graph::Graph;
 use crate::kept::{move_kept, renew_kept, room_kept};
 use crate::path::{Hop, Path};
 use sfm_base::Memory;
-use sfm_law::{At, Room, Swap, Term, exchange};
+use sfm_law::{At, Room, Swap, Term};
 use sfm_reach::{Based, renew, widen};
 use std::alloc::Global;
 
@@ -88,7 +88,7 @@ fn exchange_at<T: Term>(
     let i = hop.term;
     let term = &terms[i];
     let note = &mut graph.notes[i];
-    let x = graph.bases.row_mut(i);
+    let x = graph.bases.row(i);
     let base = At { q, x };
     let swap = Swap {
         u: hop.u,
@@ -96,7 +96,8 @@ fn exchange_at<T: Term>(
         a,
     };
     move_kept(alloc, &Based { term, base }, note, &swap)?;
-    exchange(term, q, x, hop.u, hop.v, a);
+    graph.bases.exchange(i, hop.u, hop.v, a);
+    let x = graph.bases.row(i);
     let base = At { q, x };
     let at = Based { term, base };
     let rows = &mut graph.rows[i];

@@ -3,56 +3,14 @@
 // the same, those that are only claimed as well: they are copied into the memory that stands, and no term is asked.
 ghost use Rattle.std.specs.{Prelude.{◌≡◌, ◌<◌, ◌^◌, ℕ, ℤ, List, true, length, map, pos, ◌*ℤ◌, OnOk, IfOk}, List.{All}};
 ghost use Rattle.sfm_spec.specs.{Bounds.{AreBounded, IsEntry, IsFactor}, Families.{meanings, AreBases}, Walks.{base_at}};
-ghost use Rattle.sfm_exchange.specs.{Graph.{IsClaimed, IsGraph, IsShaped}, Scaled.{row_times}};
+ghost use Rattle.sfm_exchange.specs.Graph.{IsClaimed, IsGraph, IsShaped};
 ghost use Rattle.sfm_reach.specs.{Reach.{AreNotes, AreSized, kept_fits}};
 
-use crate::graph::{Graph, blank_graph, copy_rows, restart};
+use crate::graph::{Graph, blank_graph, restart};
 use sfm_base::{Memory, Rows};
-use sfm_law::{Term, product};
+use sfm_law::Term;
 use sfm_reach::{BitRows, no_notes};
 use std::alloc::Global;
-
-// Whether b is q times a, where a is not too large to tell.
-fn is_times(q: i128, a: i128, b: i128) -> bool
-    requires { IsFactor q }
-    ensures { result ≡ true → b ≡ q *ℤ a }
-{
-    if a.unsigned_abs() > 1_000_000_000_000_000_000_000 {
-        return false;
-    }
-    product(q, a) == b
-}
-
-// Whether each entry of y is q times that of x, where none is too large to tell.
-fn is_multiple(q: i128, x: &[i128], y: &[i128]) -> bool
-    requires { IsFactor q }
-    ensures { result ≡ true → y.now ≡ row_times q x.now }
-{
-    if x.len() != y.len() {
-        return false;
-    }
-    for (j, a) in x.iter().enumerate() {
-        if !is_times(q, *a, y[j]) {
-            return false;
-        }
-    }
-    true
-}
-
-// Whether each of the second rows is q times the first one in its place, where no entry is too large to tell.
-fn are_multiples(q: i128, rows: &Rows, bases: &Rows) -> bool
-    requires factor { IsFactor q }
-    requires count { length bases.now ≡ length rows.now }
-    ensures { result ≡ true → (i : ℕ) → i < length rows.now
-        → base_at bases.now i ≡ row_times q (base_at rows.now i) }
-{
-    for i in 0..rows.len() {
-        if !is_multiple(q, rows.row(i), bases.row(i)) {
-            return false;
-        }
-    }
-    true
-}
 
 // Copies the rows of all terms.
 fn copy_tables(from: &[BitRows], to: &mut Vec<BitRows>)
@@ -129,7 +87,7 @@ pub fn restart_times<T: Term>(
         (length graph.old.spots.items) (m *ℤ other.now.q) graph.new) }
     ensures bases { OnOk result (graph.new.bases ≡ bases) }
 {
-    if !are_multiples(m, &other.graph.bases, &bases) {
+    if !other.graph.bases.are_times(m, &bases) {
         let n = graph.spots.len();
         restart(alloc, graph, terms, n, m * other.q, bases)?;
         return Ok(());
@@ -215,7 +173,7 @@ pub fn copy_graph<T: Term>(
     ensures { IfOk result (IsGraph T.places T.value_of T.fits terms.now n q) }
 {
     let mut copied = blank_graph(alloc, terms, n)?;
-    copied.bases = copy_rows(alloc, &graph.bases)?;
+    copied.bases = graph.bases.copy(alloc)?;
     take_rows(alloc, &mut copied, terms, graph)?;
     Ok(copied)
 }

@@ -21,7 +21,7 @@ pub use numbers::{are_within, has_sum, least_left, magnitude, product, sum_of};
 pub use plain::Plain;
 pub use rest::rest_of;
 pub use room::Room;
-pub use starts::{start_row, start_rows};
+pub use starts::{count_places, start_row, start_rows};
 pub use term::Term;
 pub use values::{greatest_magnitude, put_others_over, put_over, write_each};
 pub use walk::{Walk, WalkSteps};

@@ -40,7 +40,7 @@ fn negated(alloc: Global, numbers: &[i128]) -> Result<Vec<i128>, Memory>
     requires { magnitudes numbers.now ≤ℤ pos (10 ^ 36) }
     ensures { IfOk result (λ z. z.items ≡ map neg_ℤ numbers.now) }
 {
-    let mut z = Vec::new(alloc);
+    let mut z = Vec::with_capacity(alloc, numbers.len())?;
     for a in numbers {
         z.push(-*a)?;
     }

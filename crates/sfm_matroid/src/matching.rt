@@ -12,15 +12,15 @@ use sfm_assign::{Demand, Kept};
 use sfm_base::{Memory, Set};
 use std::alloc::Global;
 
-/// Slots as numbers of capacities.
-fn numbers(alloc: Global, slots: &[u32]) -> Result<Vec<usize>, Memory>
-    ensures { IfOk result (λ r. r.items ≡ slots.now) }
+/// Writes slots as numbers of capacities.
+fn write_numbers(slots: &[u32], numbers: &mut Vec<usize>) -> Result<(), Memory>
+    ensures { OnOk result (numbers.new.items ≡ slots.now) }
 {
-    let mut numbers = Vec::new(alloc);
+    numbers.clear();
     for v in slots {
         numbers.push(*v as usize)?;
     }
-    Ok(numbers)
+    Ok(())
 }
 
 /// Puts the elements as demands that are split over the slots of their entries, where there are none before.
@@ -42,9 +42,10 @@ fn push_slots(
     }) }
 {
     let items = entries.as_slice();
+    let mut slots = Vec::new(alloc);
     for e in 0..items.len() {
-        let slots = numbers(alloc, items[e].as_slice())?;
-        demand.push(x[e], slots)?;
+        write_numbers(items[e].as_slice(), &mut slots)?;
+        demand.push(x[e], &slots)?;
     }
     Ok(())
 }

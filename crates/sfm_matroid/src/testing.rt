@@ -24,12 +24,7 @@ pub(crate) fn capacities(alloc: Global, m: usize, most: i128, a: usize) -> Resul
 }
 
 /// Puts the edges as demands that are split over their ends, where there are none before.
-fn push_ends(
-    alloc: Global,
-    ends: &[(usize, usize)],
-    x: &[i128],
-    demand: &mut Demand,
-) -> Result<(), Memory>
+fn push_ends(ends: &[(usize, usize)], x: &[i128], demand: &mut Demand) -> Result<(), Memory>
     requires few { length ends.now ≤ 256 }
     requires sized { length x.now ≡ length ends.now }
     requires amounts { All IsAmount x.now }
@@ -43,7 +38,7 @@ fn push_ends(
 {
     for e in 0..ends.len() {
         let (tail, head) = ends[e];
-        demand.push(x[e], vec![in alloc; tail, head]?)?;
+        demand.push(x[e], &[tail, head])?;
     }
     Ok(())
 }
@@ -62,7 +57,7 @@ pub(crate) fn end_demand(
 {
     let capacities = capacities(alloc, graph.vertices, most, a)?;
     let mut demand = Demand::new(alloc, &capacities)?;
-    push_ends(alloc, graph.ends.as_slice(), x, &mut demand)?;
+    push_ends(graph.ends.as_slice(), x, &mut demand)?;
     Ok(demand)
 }
 

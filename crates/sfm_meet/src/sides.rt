@@ -75,7 +75,7 @@ fn first_rows(alloc: Global, rows: &Rows, count: usize) -> Result<Rows, Memory>
 {
     let mut firsts = Rows::new(alloc);
     for i in 0..count {
-        firsts.push(Vec::from_slice(alloc, rows.row(i))?)?;
+        firsts.push(rows.row(i))?;
     }
     Ok(firsts)
 }
@@ -87,7 +87,8 @@ fn push_turned(alloc: Global, rows: &Rows, from: usize, to: &mut Rows) -> Result
     ensures { OnOk result (to.new ≡ to.old ++ map negated (drop from rows.now)) }
 {
     for i in from..rows.len() {
-        to.push(turned(alloc, rows.row(i))?)?;
+        let row = turned(alloc, rows.row(i))?;
+        to.push(&row)?;
     }
     Ok(())
 }

@@ -32,7 +32,7 @@ fn read_side(
     for term in instance.terms() {
         let width = term.elements().len();
         let numbers = read_labelled(alloc, text, cursor, word, spot, width)?;
-        rows.push(numbers)?;
+        rows.push(&numbers)?;
         spot = spot.next(lines);
     }
     Ok(rows)

@@ -102,7 +102,7 @@ pub fn no_notes<T: Term>(alloc: Global, terms: &[T]) -> Result<Vec<Option<T::Not
     ensures fit { IfOk result (λ r. (q : ℤ) (bases : List (List ℤ))
         → AreNotes (kept_fits T.fits) q terms.now r.items bases) }
 {
-    let mut notes = Vec::new(alloc);
+    let mut notes = Vec::with_capacity(alloc, terms.len())?;
     for _ in terms {
         notes.push(None)?;
     }

@@ -254,7 +254,7 @@ pub fn ask<T: Term>(
 pub fn blank_rows<T: Term>(alloc: Global, terms: &[T]) -> Result<Vec<BitRows>, Memory>
     ensures { IfOk result (λ r. AreSized (map T.places terms.now) r.items) }
 {
-    let mut rows = Vec::new(alloc);
+    let mut rows = Vec::with_capacity(alloc, terms.len())?;
     for term in terms {
         rows.push(BitRows::blank(alloc, term.elements().len())?)?;
     }

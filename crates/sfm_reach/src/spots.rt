@@ -70,7 +70,7 @@ pub fn spots_of<T: Term>(alloc: Global, terms: &[T], n: usize) -> Result<Vec<Spo
 fn no_spots(alloc: Global, n: usize) -> Result<Vec<Spots>, Memory>
     ensures { IfOk result (λ r. r.items ≡ replicate n []) }
 {
-    let mut spots = Vec::new(alloc);
+    let mut spots = Vec::with_capacity(alloc, n)?;
     for _ in 0..n {
         spots.push(Spots::new(alloc))?;
     }

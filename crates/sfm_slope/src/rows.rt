@@ -6,7 +6,7 @@ ghost use Rattle.sfm_spec.specs.{Bounds.{IsAtMost, IsFactor, total_of}, Families
 
 use crate::search::GRAIN;
 use sfm_base::{Memory, Rows};
-use sfm_law::{Term, product, start_rows};
+use sfm_law::{Term, start_rows};
 use std::alloc::Global;
 
 /// The first bases of q times the terms, with entries of magnitude at most 10^25.
@@ -55,7 +55,7 @@ pub fn rows_times<T: Term>(
     ensures small { IfOk result (λ r. All (λ x. All (IsAtMost (10 ^ 25)) x) r) }
 {
     if are_small(bases, 10_000_000_000_000_000_000) {
-        let rows = all_times(alloc, q, bases)?;
+        let rows = bases.times(alloc, q)?;
         return Ok(rows);
     }
     first_rows(alloc, terms, grains(q))
@@ -78,34 +78,4 @@ fn is_small(x: &[i128], most: u128) -> bool
     ensures { IsTrue result ↔ All (λ a. unsigned_abs a ≤ most) x.now }
 {
     x.iter().all(|a| a.unsigned_abs() <= most)
-}
-
-/// q times each entry of each row.
-///
-/// # Errors
-///
-/// `Memory` where there is none.
-pub fn all_times(alloc: Global, q: i128, rows: &Rows) -> Result<Rows, Memory>
-    requires factor { IsFactor q }
-    requires small { All (λ x. All (IsAtMost (10 ^ 21)) x) rows.now }
-    ensures { IfOk result (λ r. r ≡ map (λ x. map (λ a. q *ℤ a) x) rows.now) }
-{
-    let mut all = Rows::new(alloc);
-    for i in 0..rows.len() {
-        all.push(row_times(alloc, q, rows.row(i))?)?;
-    }
-    Ok(all)
-}
-
-// q times each entry.
-fn row_times(alloc: Global, q: i128, x: &[i128]) -> Result<Vec<i128>, Memory>
-    requires factor { IsFactor q }
-    requires small { All (IsAtMost (10 ^ 21)) x.now }
-    ensures { IfOk result (λ r. r.items ≡ map (λ a. q *ℤ a) x.now) }
-{
-    let mut row = Vec::new(alloc);
-    for a in x {
-        row.push(product(q, *a))?;
-    }
-    Ok(row)
 }

@@ -11,7 +11,7 @@ use crate::standing::first_standing;
 use crate::tree::branch;
 use crate::turn::Breakpoint;
 use sfm_base::Memory;
-use sfm_law::{Break, Term};
+use sfm_law::{Break, Term, count_places};
 use sfm_walk::minimise_from_start;
 use std::alloc::Global;
 
@@ -49,15 +49,6 @@ const FEW_BREAKPOINTS: usize = 16;
 // are short, and a graph has rows of all terms.
 fn is_dear<T: Term>(terms: &[T], breakpoints: usize) -> bool {
     terms.len() / MANY_TERMS > breakpoints && count_places(terms) / FEW_PLACES < terms.len()
-}
-
-// How many places the terms have in all, as far as the number goes.
-fn count_places<T: Term>(terms: &[T]) -> usize {
-    let mut count = 0usize;
-    for term in terms {
-        count = count.saturating_add(term.elements().len());
-    }
-    count
 }
 
 // So many times as many terms as breakpoints are many.

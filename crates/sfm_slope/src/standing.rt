@@ -10,7 +10,7 @@ ghost use Rattle.sfm_slope.specs.{Points.{IsInRange}, Standings.{IsStanding}};
 use crate::rows::first_rows;
 use crate::turn::Breakpoint;
 use sfm_base::{Memory, Rows, Slope};
-use sfm_exchange::{Graph, copy_rows, graph_by};
+use sfm_exchange::{Graph, graph_by};
 use sfm_law::Term;
 use sfm_sizes::shift_by;
 use sfm_stage::run_stage;
@@ -55,7 +55,7 @@ pub fn first_standing<T: Term>(
         sizes.now _found.now) }
 {
     let bases = first_rows(alloc, terms, 1)?;
-    let firsts = copy_rows(alloc, &bases)?;
+    let firsts = bases.copy(alloc)?;
     let graph = graph_by(alloc, terms, sizes.len(), 1, bases, first)?;
     Ok(Standing {
         firsts,
@@ -81,8 +81,8 @@ pub fn copy_standing<T: Term>(
     ensures { IfOk result (IsStanding T.places T.value_of T.size_of T.fits T.start_of terms.now
         sizes.now _found.now) }
 {
-    let firsts = copy_rows(alloc, &at.firsts)?;
-    let bases = copy_rows(alloc, &at.graph.bases)?;
+    let firsts = at.firsts.copy(alloc)?;
+    let bases = at.graph.bases.copy(alloc)?;
     let graph = graph_by(alloc, terms, sizes.len(), 1, bases, &at.graph)?;
     Ok(Standing {
         firsts,

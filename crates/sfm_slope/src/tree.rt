@@ -10,14 +10,14 @@ ghost use Rattle.sfm_exchange.specs.Scaled.{row_times};
 ghost use Rattle.sfm_stage.specs.Served.{rows_times};
 ghost use Rattle.sfm_slope.specs.{Marks.{HasBasesBy, mark_of}, Points.{IsInRange, found_mark}, Searches.{IsSearch}, Standings.{IsStanding, IsSection}};
 
-use crate::rows::{all_times, are_small, first_rows};
+use crate::rows::{are_small, first_rows};
 use crate::search::{Search, set_shift};
 use crate::sections::section;
 use crate::standing::{Standing, copy_standing, most_walks, stage_over};
 use crate::turn::Breakpoint;
 use sfm_base::{Memory, Rows, Slope, Steps};
-use sfm_exchange::{copy_rows, restart_by};
-use sfm_law::{Break, Term, product};
+use sfm_exchange::restart_by;
+use sfm_law::{Break, Term};
 use sfm_walk::improve;
 use std::alloc::Global;
 use std::mem;
@@ -158,14 +158,14 @@ fn multiple_of<T: Term>(
         return Ok(None);
     }
     if q == 1 {
-        let copied = copy_rows(alloc, &at.graph.bases)?;
+        let copied = at.graph.bases.copy(alloc)?;
         return Ok(Some(copied));
     }
     let starts = first_rows(alloc, terms, q)?;
-    if !are_times(q, &at.firsts, &starts) {
+    if !at.firsts.are_times(q, &starts) {
         return Ok(None);
     }
-    let bases = all_times(alloc, q, &at.graph.bases)?;
+    let bases = at.graph.bases.times(alloc, q)?;
     Ok(Some(bases))
 }
 
@@ -212,38 +212,4 @@ fn walk_on<T: Term>(
         return Ok(None);
     }
     Ok(Some(mem::replace(&mut search.cold.bases, Rows::new(alloc))))
-}
-
-// Whether each entry of the other rows is q times that of the rows.
-fn are_times(q: i128, rows: &Rows, others: &Rows) -> bool
-    requires factor { IsFactor q }
-    requires small { All (λ x. All (IsAtMost (10 ^ 21)) x) rows.now }
-    ensures { result ≡ true → others.now ≡ rows_times q rows.now }
-{
-    if rows.len() != others.len() {
-        return false;
-    }
-    for i in 0..rows.len() {
-        if !is_times(q, rows.row(i), others.row(i)) {
-            return false;
-        }
-    }
-    true
-}
-
-// Whether each entry of y is q times that of x.
-fn is_times(q: i128, x: &[i128], y: &[i128]) -> bool
-    requires factor { IsFactor q }
-    requires small { All (IsAtMost (10 ^ 21)) x.now }
-    ensures { result ≡ true → y.now ≡ row_times q x.now }
-{
-    if x.len() != y.len() {
-        return false;
-    }
-    for (j, a) in x.iter().enumerate() {
-        if product(q, *a) != y[j] {
-            return false;
-        }
-    }
-    true
 }

@@ -52,20 +52,21 @@ fn sum_of<T: Term>(alloc: Global, terms: &[T], set: &Set) -> Result<i128, Memory
     ensures small { IfOk result IsGiven }
 {
     let mut sum = 0;
+    let mut scratch = Set::empty(alloc, 0)?;
     for term in terms {
-        sum += value_at(alloc, term, set)?;
+        sum += value_at(alloc, term, set, &mut scratch)?;
     }
     Ok(sum)
 }
 
-// The value of a term at a set, or 0 where the term does not allow its part.
-fn value_at<T: Term>(alloc: Global, term: &T, set: &Set) -> Result<i128, Memory>
+// The value of a term at a set, or 0 where the term does not allow its part, which is written in a set that is there.
+fn value_at<T: Term>(alloc: Global, term: &T, set: &Set, scratch: &mut Set) -> Result<i128, Memory>
     requires placed { (j : ℕ) → j < length (T.places term.now)
         → slice_index (T.places term.now) j < length set.now }
     ensures { IfOk result (λ r. r ≡ unwrap_or (T.value_of term.now
         (part (T.places term.now) set.now)) (pos 0)) }
 {
-    let part = set.part(alloc, term.elements())?;
-    let value = term.value(alloc, &part)?;
+    scratch.take_part(alloc, set, term.elements())?;
+    let value = term.value(alloc, scratch)?;
     Ok(value.unwrap_or(0))
 }

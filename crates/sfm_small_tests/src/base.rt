@@ -266,34 +266,22 @@ fn is_only_row(rows: &Rows, numbers: &[i128]) -> bool {
     rows.len() == 1 && rows.row(0) == numbers
 }
 
-/// Writes the first number of a row, if it has one.
-fn write_first(row: &mut [i128]) {
-    if !row.is_empty() {
-        row[0] = -9;
-    }
-}
-
-const WRITTEN_AGAIN: [i128; 2] = [-9, 7];
-
-/// Whether the only row is as it is to be once its first number is written anew.
-fn writes_row(rows: &mut Rows) -> bool {
-    if !is_only_row(rows, &WRITTEN) || rows.is_empty() {
+/// Whether rows keep these numbers, and so does a copy of them.
+fn keeps_row(alloc: Global, numbers: &Numbers) -> bool {
+    let mut rows = Rows::new(alloc);
+    if !rows.is_empty() || rows.push(numbers.as_slice()).is_err() || !is_only_row(&rows, &WRITTEN) {
         return false;
     }
-    write_first(rows.row_mut(0));
-    is_only_row(rows, &WRITTEN_AGAIN)
-}
-
-/// Whether rows keep these numbers.
-fn keeps_row(alloc: Global, numbers: Numbers) -> bool {
-    let mut rows = Rows::new(alloc);
-    rows.is_empty() && rows.push(numbers.into_vec()).is_ok() && writes_row(&mut rows)
+    match rows.copy(alloc) {
+        Ok(copied) => is_only_row(&copied, &WRITTEN),
+        Err(_) => false,
+    }
 }
 
 /// Whether numbers are written, and rows keep them.
 fn keeps_numbers(alloc: Global) -> bool {
     match Numbers::from_slice(alloc, &TWO_NUMBERS) {
-        Ok(mut numbers) => writes_second(&mut numbers) && keeps_row(alloc, numbers),
+        Ok(mut numbers) => writes_second(&mut numbers) && keeps_row(alloc, &numbers),
         Err(_) => false,
     }
 }

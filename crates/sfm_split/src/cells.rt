@@ -4,8 +4,7 @@ ghost use Rattle.std.specs.{Prelude.{◌≡◌, ◌<◌, ◌++◌, length, pos, 
 ghost use Rattle.sfm_split.specs.{Cells.{joined, owners}, Chains.{AreChains}};
 
 use crate::chains::Chains;
-use crate::demand::Slots;
-use sfm_base::Memory;
+use sfm_base::{Lists, Memory};
 use std::alloc::Global;
 
 /// The demand and the slot of each cell, in the order of the demands and of their lists, and the chains of these.
@@ -30,15 +29,6 @@ impl Drop for Cells {
     }
 }
 
-/// How many cells lists have, to set aside room for them.
-fn count(lists: &[Slots]) -> usize {
-    let mut count: usize = 0;
-    for list in lists {
-        count = count.saturating_add(list.as_slice().len());
-    }
-    count
-}
-
 /// Puts the cells of a demand at the end.
 fn add(
     whos: &mut Vec<usize>,
@@ -58,16 +48,16 @@ fn add(
 
 impl Cells {
     /// The cells of lists of slots below m.
-    pub(crate) fn of(alloc: Global, lists: &[Slots], m: usize) -> Result<Cells, Memory>
+    pub(crate) fn of(alloc: Global, lists: &Lists, m: usize) -> Result<Cells, Memory>
         requires exist { All (All (λ s. s < m)) lists.now }
         ensures whos { IfOk result (λ r. r.whos.items ≡ owners 0 lists.now) }
         ensures slots { IfOk result (λ r. r.slots.items ≡ joined lists.now) }
     {
-        let count = count(lists);
+        let count = lists.room();
         let mut whos = Vec::with_capacity(alloc, count)?;
         let mut slots = Vec::with_capacity(alloc, count)?;
         for i in 0..lists.len() {
-            add(&mut whos, &mut slots, i, lists[i].as_slice())?;
+            add(&mut whos, &mut slots, i, lists.at(i))?;
         }
         let by_who = Chains::of(alloc, lists.len(), &whos)?;
         let by_slot = Chains::of(alloc, m, &slots)?;

@@ -2,54 +2,21 @@
 ghost use Rattle.std.specs.{Prelude.{◌≡◌, ◌<◌, ◌≤◌, ◌^◌, [], ◌∷◌, ◌++◌, length, is_ok, slice_set, ◌+ℤ◌, IfOk, if◌then◌else◌}, List.{All}};
 ghost use Rattle.sfm_split.specs.Splits.{amount_at, IsAmount, IsCapacity, AreDemands};
 
-use sfm_base::Memory;
+use sfm_base::{Lists, Memory};
 use std::alloc::Global;
 use std::marker::Model;
 
-/// The slots that a demand may use, seen as a list of numbers.
-#[derive(Drop)]
-pub(crate) struct Slots {
-    items: Vec<usize>,
-}
-
-impl Model for Slots {
-    ghost use Rattle.std.specs.Prelude.{List, ℕ};
-
-    ghost Value = { List ℕ };
-
-    ghost view = { λ s. s.items.items };
-}
-
-impl Slots {
-    /// The slots in their order.
-    pub(crate) fn as_slice(&self) -> &[usize]
-        ensures { result.now ≡ self.now }
-    {
-        self.items.as_slice()
-    }
-
-    /// A copy.
-    fn copy(&self, alloc: Global) -> Result<Slots, Memory>
-        ensures { IfOk result (λ r. r ≡ self.now) }
-    {
-        Ok(Slots {
-            items: Vec::from_slice(alloc, &self.items)?,
-        })
-    }
-}
-
 /// Puts a list at the end; false where there is no memory for it.
-fn put_list(lists: &mut Vec<Slots>, slots: Vec<usize>) -> bool
-    ensures { lists.new.items ≡ (if result then lists.old.items
-        ++ slots.items ∷ [] else lists.old.items) }
+fn put_list(lists: &mut Lists, slots: &[usize]) -> bool
+    ensures { lists.new ≡ (if result then lists.old ++ slots.now ∷ [] else lists.old) }
 {
-    lists.push(Slots { items: slots }).is_ok()
+    lists.push(slots).is_ok()
 }
 
 /// Demands, the slots that each may use, and what each slot holds at most. A slot may stand more than once in a list.
 pub struct Demand {
     demands: Vec<i128>,
-    lists: Vec<Slots>,
+    lists: Lists,
     capacities: Vec<i128>,
 }
 
@@ -71,13 +38,13 @@ impl Model for Demand {
 
     ghost view = { λ s. record {
       demands = s.demands.items;
-      lists = s.lists.items;
+      lists = s.lists;
       capacities = s.capacities.items;
     } };
 
     ghost invariant = { λ s. AreDemands (record {
       demands = s.demands.items;
-      lists = s.lists.items;
+      lists = s.lists;
       capacities = s.capacities.items;
     }) };
 }
@@ -100,23 +67,23 @@ impl Demand {
         let capacities = Vec::from_slice(alloc, capacities)?;
         Ok(Demand {
             demands: Vec::new(alloc),
-            lists: Vec::new(alloc),
+            lists: Lists::new(alloc),
             capacities,
         })
     }
 
-    /// Puts a demand at the end, with the slots that it may use, which are taken over.
+    /// Puts a demand at the end, with the slots that it may use, which are copied.
     ///
     /// # Errors
     ///
     /// `Memory` where there is none; the demands are then as they were.
-    pub fn push(&mut self, d: i128, slots: Vec<usize>) -> Result<(), Memory>
+    pub fn push(&mut self, d: i128, slots: &[usize]) -> Result<(), Memory>
         requires few { length self.old.demands < 256 }
         requires amount { IsAmount d }
-        requires exist { All (λ s. s < length self.old.capacities) slots.items }
+        requires exist { All (λ s. s < length self.old.capacities) slots.now }
         ensures { self.new ≡ (if is_ok result then record {
           demands = self.old.demands ++ d ∷ [];
-          lists = self.old.lists ++ slots.items ∷ [];
+          lists = self.old.lists ++ slots.now ∷ [];
           capacities = self.old.capacities;
         } else self.old) }
     {
@@ -136,13 +103,9 @@ impl Demand {
     pub fn copy(&self, alloc: Global) -> Result<Demand, Memory>
         ensures { IfOk result (λ r. r ≡ self.now) }
     {
-        let mut lists = Vec::with_capacity(alloc, self.lists.len())?;
-        for list in &self.lists {
-            lists.push(list.copy(alloc)?)?;
-        }
         Ok(Demand {
             demands: Vec::from_slice(alloc, &self.demands)?,
-            lists,
+            lists: self.lists.copy(alloc)?,
             capacities: Vec::from_slice(alloc, &self.capacities)?,
         })
     }
@@ -186,11 +149,11 @@ impl Demand {
     }
 
     /// The lists in order.
-    pub(crate) fn lists(&self) -> &[Slots]
+    pub(crate) fn lists(&self) -> &Lists
         ensures value { result.now ≡ self.now.lists }
         ensures sound { AreDemands self.now }
     {
-        self.lists.as_slice()
+        &self.lists
     }
 
     /// The capacities of the slots.

@@ -2,8 +2,7 @@
 ghost use Rattle.std.specs.Prelude.{◌≡◌, ◌<◌, ◌==◌, length, IfOk};
 ghost use Rattle.sfm_split.specs.{Splits.{row_at}, Cells.{joined, cut}};
 
-use crate::demand::Slots;
-use sfm_base::{Memory, Rows};
+use sfm_base::{Lists, Memory, Rows};
 use std::alloc::Global;
 use std::marker::Model;
 
@@ -45,15 +44,15 @@ impl Split {
     }
 
     /// The amounts on the cells, cut into rows as long as the lists.
-    pub(crate) fn cut(alloc: Global, lists: &[Slots], y: &[i128]) -> Result<Split, Memory>
+    pub(crate) fn cut(alloc: Global, lists: &Lists, y: &[i128]) -> Result<Split, Memory>
         requires { length y.now ≡ length (joined lists.now) }
         ensures { IfOk result (λ r. r ≡ cut lists.now y.now) }
     {
         let mut rows = Rows::new(alloc);
         let mut at = 0;
-        for list in lists {
-            let end = at + list.as_slice().len();
-            rows.push(Vec::from_slice(alloc, &y[at..end])?)?;
+        for i in 0..lists.len() {
+            let end = at + lists.at(i).len();
+            rows.push(&y[at..end])?;
             at = end;
         }
         Ok(Split { rows })

@@ -79,14 +79,13 @@ fn may_ask(amounts: &[i128], slots: usize, amount: i128, list: &[usize]) -> bool
 }
 
 /// Demands and one more.
-fn pushed(alloc: Global, demand: Demand, amount: i128, list: &[usize]) -> Result<Demand, Memory>
+fn pushed(demand: Demand, amount: i128, list: &[usize]) -> Result<Demand, Memory>
     requires few { length demand.demands < 256 }
     requires amount { IsAmount amount }
     requires exist { All (λ s. s < length demand.capacities) list.now }
     ensures amounts { IfOk result (λ r. r.demands ≡ demand.demands ++ amount ∷ []) }
     ensures slots { IfOk result (λ r. r.capacities ≡ demand.capacities) }
 {
-    let list = Vec::from_slice(alloc, list)?;
     let mut demand = demand;
     demand.push(amount, list)?;
     Ok(demand)
@@ -106,7 +105,7 @@ fn asked_more(alloc: Global, asked: Asked, amount: i128, list: &[usize]) -> Opti
     if !may_ask(&asked.amounts, asked.slots, amount, list) {
         return None;
     }
-    let Ok(demand) = pushed(alloc, asked.demand, amount, list) else {
+    let Ok(demand) = pushed(asked.demand, amount, list) else {
         return None;
     };
     let Ok(amounts) = with_amount(asked.amounts, amount) else {

@@ -1,8 +1,8 @@
 // The move along a shortest walk, at bases alone: the exchanges of its steps, one after the other. No entry is off by more than
 // the amount at any time, and what the steps change in all is told by the walk, so the order is free; that bases come of it is
 // the law of shortest walks.
-ghost use Rattle.std.specs.{Prelude.{◌≡◌, ◌≢◌, ◌<◌, ◌*◌, ◌^◌, ℕ, Bool, List, map, pos, ◌≤ℤ◌, length, slice_index_or}, List.{All}};
-ghost use Rattle.sfm_spec.specs.{Sets.{Has, AreDistinct}, Bounds.{AreBounded, IsAtMost, IsEntry, IsFactor}, Terms.{exchanged}, Families.{meanings, AreBases}, Walks.{AllCanMove, IsShortestTo, IsWalkMove}};
+ghost use Rattle.std.specs.{Prelude.{◌≡◌, ◌≢◌, ◌<◌, ◌*◌, ◌^◌, ℕ, Bool, List, map, pos, ◌≤ℤ◌, length, slice_index_or, slice_set}, List.{All}};
+ghost use Rattle.sfm_spec.specs.{Sets.{Has, AreDistinct}, Bounds.{AreBounded, IsAtMost, IsEntry, IsFactor}, Terms.{exchanged}, Families.{meanings, AreBases}, Walks.{AllCanMove, IsShortestTo, IsWalkMove, base_at}};
 
 use sfm_base::Rows;
 use sfm_exchange::local_of;
@@ -28,28 +28,27 @@ pub fn follow<T: Term>(terms: &[T], _q: i128, bases: &mut Rows, walk: &Walk, a: 
 {
     let mut from = walk.first;
     for (to, term) in walk.steps.as_slice() {
-        let row = bases.row_mut(*term);
-        exchange_places(terms[*term].elements(), row, from, *to, a);
+        exchange_places(terms[*term].elements(), bases, *term, from, *to, a);
         from = *to;
     }
 }
 
-// The exchange of two places of a term: the entry of the one is raised by an amount, that of the other lowered.
-fn exchange_places(places: &[usize], x: &mut [i128], from: usize, to: usize, a: i128)
-    requires sized { length x.old ≡ length places.now }
+// The exchange of two places of a term in its row i: the entry of the one is raised by an amount, that of the other lowered.
+fn exchange_places(places: &[usize], bases: &mut Rows, i: usize, from: usize, to: usize, a: i128)
+    requires inside { i < length bases.old }
+    requires sized { length (base_at bases.old i) ≡ length places.now }
     requires from { (u : ℕ) × (u < length places.now)
         × (slice_index_or places.now u 0 ≡ from) }
     requires to { (v : ℕ) × (v < length places.now) × (slice_index_or places.now v 0 ≡ to) }
     requires apart { from ≢ to }
-    requires small { All (IsAtMost (2 * 10 ^ 30)) x.old }
+    requires small { All (IsAtMost (2 * 10 ^ 30)) (base_at bases.old i) }
     requires low { pos 0 ≤ℤ a }
     requires high { a ≤ℤ pos (10 ^ 30) }
     ensures { (u : ℕ) × (v : ℕ) × (u < length places.now) × (v < length places.now)
         × (slice_index_or places.now u 0 ≡ from) × (slice_index_or places.now v 0 ≡ to)
-        × (x.new ≡ exchanged x.old u v a) }
+        × (bases.new ≡ slice_set bases.old i (exchanged (base_at bases.old i) u v a)) }
 {
     let u = local_of(places, from).unwrap();
     let v = local_of(places, to).unwrap();
-    x[u] += a;
-    x[v] -= a;
+    bases.exchange(i, u, v, a);
 }

@@ -7,7 +7,7 @@ ghost use Rattle.sfm_walk.specs.Marks.{marks_of};
 use crate::run::run_at;
 use crate::walk::searched_walk;
 use sfm_base::{Memory, Rows, Set};
-use sfm_exchange::{copy_rows, graph_at, steps_along};
+use sfm_exchange::{graph_at, steps_along};
 use sfm_law::{Term, Walk, rest_of};
 use std::alloc::Global;
 
@@ -40,7 +40,7 @@ pub fn shortest<T: Term>(
 {
     let z = marks(alloc, to, from)?;
     let shift = rest_of(alloc, terms, &z, bases)?;
-    let copied = copy_rows(alloc, bases)?;
+    let copied = bases.copy(alloc)?;
     let mut graph = graph_at(alloc, terms, to.len(), q, copied)?;
     let mut run = run_at(alloc, z);
     if !searched_walk(alloc, &mut graph, terms, q, &shift, &mut run)? {

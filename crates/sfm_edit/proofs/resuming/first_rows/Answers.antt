@@ -19,9 +19,10 @@ loop-j-preserved c =
     let row = c.in_ok-row.ensures ∙ row-at kinds kept rows j kind c.at.result c.index-terms-j.is c.at.ensures in
     let before = map (λ (pair : Kind × Option ℕ). first_of rows pair.0 pair.1) (take j (zip kinds kept)) in
     c.in_ok-push.ensures
+    ∙ (ap (λ (x : List ℤ). c.loop-j.firsts ++ x ∷ []) c.deref.ensures.value
     ∙ (ap (λ (l : List (List ℤ)). l ++ c.in_ok-row.row.items ∷ []) c.loop-j.invariant
     ∙ (ap (λ (x : List ℤ). before ++ x ∷ []) row
-    ∙ sym (firsts-more kinds kept rows j kind c.requires.count c.loop-j-test.true)))
+    ∙ sym (firsts-more kinds kept rows j kind c.requires.count c.loop-j-test.true))))
 
 pub returns : goal.returns
 returns c = c.loop-j.invariant ∙ firsts-all c.args.terms.now c.args.kept.now c.args.rows.now c.loop-j.j c.requires.count c.loop-j-test.false

@@ -1,12 +1,15 @@
-use Rattle.std.proofs.Common.{◌≡◌, ◌++◌, List, ℤ, length, set, take, drop, inr, refl, sym, ap, ◌∙◌, subst, arith, get_or-set_same, FitsSigned}
-use Rattle.std.proofs.lemmas.Int.{to_z-of_z}
-use Rattle.std.proofs.lemmas.List.{take_at}
+use Rattle.std.proofs.Common.{◌≡◌, List, [], ℤ, pos, length, get_or, set, inr, refl, sym, ap, ◌∙◌, subst, arith, get_or-set_same, FitsSigned}
+use Rattle.std.proofs.lemmas.Int.{ints, to_z-of_z}
+use Rattle.std.proofs.lemmas.List.{length-set}
+use Rattle.std.proofs.lemmas.List.Elements.{All-get_or}
 use mir.Syntax.{w128}
 use mir.Val.{of_z, to_z}
-use Rattle.sfm_spec.specs.Terms.{times, exchanged}
+use Rattle.sfm_spec.specs.Bounds.{IsEntry}
+use Rattle.sfm_spec.specs.Terms.{IsBase, times, exchanged}
 use Rattle.sfm_spec.specs.Walks.{base_at}
 use Rattle.sfm_spec.proofs.Sums.{length-exchanged}
 use Rattle.sfm_law.specs.Based.{CanSwap, IsBased}
+use Rattle.sfm_law.proofs.Rooms.{base_within_room}
 use Rattle.sfm_reach.specs.Based.{IsPlacedBase}
 use Rattle.sfm_reach.specs.Reach.{kept_fits}
 use Rattle.sfm_exchange.specs.Claimed.{AreClaims}
@@ -14,10 +17,10 @@ use Rattle.sfm_reach.proofs.Basing.{based_after, size_low}
 use Rattle.sfm_exchange.proofs.ClaimedGraphs.{base_count, based, claimed_after, claimed_shown, claims_at, means, place_in, rows_after, rows_count, rows_shown, united_by}
 use Rattle.sfm_exchange.proofs.moving.exchange_at.Given as given
 use Rattle.sfm_exchange.proofs.moving.exchange_at.Goals as goal
-use Rattle.sfm_exchange.proofs.moving.exchange_at.Goals.{After-at-1, After-row_mut-x}
+use Rattle.sfm_exchange.proofs.moving.exchange_at.Goals.{After-row-x, After-row-x-2}
 
 -- the row of the term is a base of it within the bounds
-here : (g : given.Over) (c : After-row_mut-x g) → let t = g.T.Term in IsPlacedBase t.places t.value_of t.size_of c.index-terms-i.result c.args.q (base_at c.args.graph.now.bases c.args.hop.term)
+here : (g : given.Over) (c : After-row-x g) → let t = g.T.Term in IsPlacedBase t.places t.value_of t.size_of c.index-terms-i.result c.args.q (base_at c.args.graph.now.bases c.args.hop.term)
 here g c =
     let t = g.T.Term in
     let m = g.met.T.Term in
@@ -25,44 +28,62 @@ here g c =
     based r.graph c.args.hop.term r.inside c.index-terms-i.result c.index-terms-i.is (size_low t.places t.value_of t.size_of m.submodular m.bounded) r.can.small
 
 -- also as the calls are given it
-given_base : (g : given.Over) (c : After-row_mut-x g) → let t = g.T.Term in IsBased t.places t.value_of t.size_of c.index-terms-i.result (to_z w128 (of_z w128 c.args.q)) c.row_mut-x.result.now
+given_base : (g : given.Over) (c : After-row-x g) → let t = g.T.Term in IsBased t.places t.value_of t.size_of c.index-terms-i.result (to_z w128 (of_z w128 c.args.q)) c.row-x.result.now
 given_base g c =
     let fq : FitsSigned w128 c.args.q = c.ranges.q in
-    rw c.row_mut-x.ensures.value (simp to_z-of_z (here g c).based)
+    rw c.row-x.ensures (simp to_z-of_z (here g c).based)
 
 -- and the exchange can be made there
-can : (g : given.Over) (c : After-row_mut-x g) → CanSwap (times (to_z w128 (of_z w128 c.args.q)) (g.T.Term.value_of c.index-terms-i.result)) c.row_mut-x.result.now c.args.hop.u c.args.hop.v (to_z w128 (of_z w128 c.args.a))
+can : (g : given.Over) (c : After-row-x g) → CanSwap (times (to_z w128 (of_z w128 c.args.q)) (g.T.Term.value_of c.index-terms-i.result)) c.row-x.result.now c.args.hop.u c.args.hop.v (to_z w128 (of_z w128 c.args.a))
 can g c =
     let r = c.requires in
     let fq : FitsSigned w128 c.args.q = c.ranges.q in
     let fa : FitsSigned w128 c.args.a = c.ranges.a in
     let swap = rw (means r.graph c.args.hop.term r.inside c.index-terms-i.result c.index-terms-i.is) at r.can.swap in
-    rw c.row_mut-x.ensures.value (simp to_z-of_z swap)
+    rw c.row-x.ensures (simp to_z-of_z swap)
 
--- what it has become by the exchange
-came : (g : given.Over) (c : After-at-1 g) → c.exchange.new.x ≡ exchanged (base_at c.args.graph.now.bases c.args.hop.term) c.args.hop.u c.args.hop.v c.args.a
-came g c =
+-- the bases after the exchange
+moved : (g : given.Over) (c : After-row-x-2 g) → let bases = c.args.graph.now.bases in
+    c.exchange.new.self ≡ set bases c.args.hop.term (exchanged (base_at bases c.args.hop.term) c.args.hop.u c.args.hop.v c.args.a)
+moved g c =
     let fa : FitsSigned w128 c.args.a = c.ranges.a in
-    simp to_z-of_z at (rw c.row_mut-x.ensures.value at c.exchange.ensures.moved)
+    simp to_z-of_z at c.exchange.ensures
+
+-- what the row of the term has become
+came : (g : given.Over) (c : After-row-x-2 g) → c.row-x-2.result.now ≡ exchanged (base_at c.args.graph.now.bases c.args.hop.term) c.args.hop.u c.args.hop.v c.args.a
+came g c =
+    let bases = c.args.graph.now.bases in
+    let r = c.requires in
+    c.row-x-2.ensures
+    ∙ (ap (λ rows. get_or rows c.args.hop.term []) (moved g c)
+    ∙ get_or-set_same bases c.args.hop.term (exchanged (base_at bases c.args.hop.term) c.args.hop.u c.args.hop.v c.args.a) [] (rw (base_count r.graph) r.inside))
 
 -- which is such a base too
-still : (g : given.Over) (c : After-at-1 g) (b : let t = g.T.Term in IsPlacedBase t.places t.value_of t.size_of c.index-terms-i.result c.args.q (base_at c.args.graph.now.bases c.args.hop.term))
-    → let t = g.T.Term in IsPlacedBase t.places t.value_of t.size_of c.index-terms-i.result c.args.q c.exchange.new.x
+still : (g : given.Over) (c : After-row-x-2 g) (b : let t = g.T.Term in IsPlacedBase t.places t.value_of t.size_of c.index-terms-i.result c.args.q (base_at c.args.graph.now.bases c.args.hop.term))
+    → let t = g.T.Term in IsPlacedBase t.places t.value_of t.size_of c.index-terms-i.result c.args.q c.row-x-2.result.now
 still g c b =
     let t = g.T.Term in
-    let fq : FitsSigned w128 c.args.q = c.ranges.q in
+    let r = c.requires in
     let hop = c.args.hop in
-    based_after t.places t.value_of t.size_of c.index-terms-i.result c.args.q (base_at c.args.graph.now.bases hop.term) c.exchange.new.x hop.u hop.v c.args.a b (came g c) c.requires.can.after (simp to_z-of_z at c.exchange.ensures.base)
+    let f = times c.args.q (t.value_of c.index-terms-i.result) in
+    let x = base_at c.args.graph.now.bases hop.term in
+    let s : CanSwap f x hop.u hop.v c.args.a = rw (means r.graph hop.term r.inside c.index-terms-i.result c.index-terms-i.is) at r.can.swap in
+    let base : IsBase f (exchanged x hop.u hop.v c.args.a) = base_within_room c.args.a b.based.base s.from s.onto s.apart s.low s.room in
+    based_after t.places t.value_of t.size_of c.index-terms-i.result c.args.q x c.row-x-2.result.now hop.u hop.v c.args.a b (came g c) r.can.after (subst (IsBase f) (sym (came g c)) base)
 
 -- with as many entries
-long : (g : given.Over) (c : After-at-1 g) → length c.exchange.new.x ≡ length (base_at c.args.graph.now.bases c.args.hop.term)
+long : (g : given.Over) (c : After-row-x-2 g) → length c.row-x-2.result.now ≡ length (base_at c.args.graph.now.bases c.args.hop.term)
 long g c = ap length (came g c) ∙ length-exchanged (base_at c.args.graph.now.bases c.args.hop.term) c.args.hop.u c.args.hop.v c.args.a
 
-pub row_mut-x-requires : goal.row_mut-x-requires
-row_mut-x-requires g c = rw (base_count c.requires.graph) c.requires.inside
+-- the bases with that row
+changed : (g : given.Over) (c : After-row-x-2 g) → c.exchange.new.self ≡ set c.args.graph.now.bases c.args.hop.term c.row-x-2.result.now
+changed g c = moved g c ∙ ap (set c.args.graph.now.bases c.args.hop.term) (sym (came g c))
+
+pub row-x-requires : goal.row-x-requires
+row-x-requires g c = rw (base_count c.requires.graph) c.requires.inside
 
 pub move_kept-requires-clause-based : goal.move_kept-requires-clause-based
-move_kept-requires-clause-based g c = given_base g (goal.at.move_kept-requires-clause-based g c).After-row_mut-x
+move_kept-requires-clause-based g c = given_base g (goal.at.move_kept-requires-clause-based g c).After-row-x
 
 pub move_kept-requires-clause-noted : goal.move_kept-requires-clause-noted
 move_kept-requires-clause-noted g c =
@@ -70,34 +91,62 @@ move_kept-requires-clause-noted g c =
     let r = c.requires in
     let term = c.index-terms-i.result in
     let F : List ℤ → Type 0 = λ x. kept_fits g.T.Term.fits term c.index_mut-note.result.now c.args.q x in
-    let fit : F c.row_mut-x.result.now = subst F (sym c.row_mut-x.ensures.value) (r.graph.noted c.args.hop.term r.inside term c.index-terms-i.is c.index_mut-note.result.now c.index_mut-note.ensures.value) in
+    let fit : F c.row-x.result.now = subst F (sym c.row-x.ensures) (r.graph.noted c.args.hop.term r.inside term c.index-terms-i.is c.index_mut-note.result.now c.index_mut-note.ensures.value) in
     simp to_z-of_z fit
 
 pub move_kept-requires-clause-can : goal.move_kept-requires-clause-can
-move_kept-requires-clause-can g c = can g (goal.at.move_kept-requires-clause-can g c).After-row_mut-x
+move_kept-requires-clause-can g c = can g (goal.at.move_kept-requires-clause-can g c).After-row-x
 
 pub exchange-requires : goal.exchange-requires
 exchange-requires g c =
-    let at = (goal.at.exchange-requires g c).After-row_mut-x in
-    let b = given_base g at in
-    let s = can g at in
-    record { factor = b.factor; entries = b.entries; small = b.small; apart = s.apart; from = s.from; onto = s.onto; base = b.base; low = s.low; high = s.high; room = s.room }
+    let at = (goal.at.exchange-requires g c).After-row-x in
+    let r = c.requires in
+    let hop = c.args.hop in
+    let fa : FitsSigned w128 c.args.a = c.ranges.a in
+    let x = base_at c.args.graph.now.bases hop.term in
+    let s : CanSwap (times c.args.q (g.T.Term.value_of c.index-terms-i.result)) x hop.u hop.v c.args.a = rw (means r.graph hop.term r.inside c.index-terms-i.result c.index-terms-i.is) at r.can.swap in
+    let small = (here g at).based.small in
+    let one : IsEntry (get_or x hop.u (pos 0)) = All-get_or IsEntry x hop.u (pos 0) s.from small in
+    let other : IsEntry (get_or x hop.v (pos 0)) = All-get_or IsEntry x hop.v (pos 0) s.onto small in
+    let low = s.low in
+    let high = s.high in
+    simp to_z-of_z (record {
+      inside = rw (base_count r.graph) r.inside;
+      from = s.from;
+      onto = s.onto;
+      apart = s.apart;
+      one = record { low = omega (arith, ints, one.low); high = omega (arith, ints, one.high) };
+      other = record { low = omega (arith, ints, other.low); high = omega (arith, ints, other.high) };
+      amount = record { low = omega (arith, ints, low); high = omega (arith, ints, high) };
+    })
+
+pub row-x-requires-2 : goal.row-x-requires-2
+row-x-requires-2 g c =
+    let r = c.requires in
+    rw (c.exchange.ensures, length-set, base_count r.graph) r.inside
 
 pub renew_kept-requires-clause-based : goal.renew_kept-requires-clause-based
 renew_kept-requires-clause-based g c =
     let fq : FitsSigned w128 c.args.q = c.ranges.q in
     let at = goal.at.renew_kept-requires-clause-based g c in
-    simp to_z-of_z (still g at.After-at-1 (here g at.After-row_mut-x))
+    simp to_z-of_z (still g at.After-row-x-2 (here g at.After-row-x))
 
 pub renew_kept-requires-clause-noted : goal.renew_kept-requires-clause-noted
-renew_kept-requires-clause-noted g c = rw c.exchange.ensures.moved c.in_ok-move_kept.ensures
+renew_kept-requires-clause-noted g c =
+    let hop = c.args.hop in
+    let bases = c.args.graph.now.bases in
+    let r = c.requires in
+    let fa : FitsSigned w128 c.args.a = c.ranges.a in
+    let at = (goal.at.renew_kept-requires-clause-noted g c).After-row-x-2 in
+    let same : c.row-x-2.result.now ≡ exchanged c.row-x.result.now hop.u hop.v c.args.a = came g at ∙ ap (λ x. exchanged x hop.u hop.v c.args.a) (sym c.row-x.ensures) in
+    rw same (simp to_z-of_z at c.in_ok-move_kept.ensures)
 
 pub renew_kept-requires-clause-rows : goal.renew_kept-requires-clause-rows
 renew_kept-requires-clause-rows g c =
     let r = c.requires in
     let at = goal.at.renew_kept-requires-clause-rows g c in
     let shown = rows_shown r.graph c.args.hop.term r.inside c.index-terms-i.result c.index-terms-i.is c.index_mut-rows.result.now c.index_mut-rows.ensures.value in
-    shown.1 ∙ sym (still g at.After-at-1 (here g at.After-row_mut-x)).based.entries
+    shown.1 ∙ sym (still g at.After-row-x-2 (here g at.After-row-x)).based.entries
 
 pub renew_kept-requires-clause-before : goal.renew_kept-requires-clause-before
 renew_kept-requires-clause-before g c =
@@ -109,11 +158,11 @@ renew_kept-requires-clause-before g c =
     let shown = rows_shown r.graph c.args.hop.term r.inside c.index-terms-i.result c.index-terms-i.is c.index_mut-rows.result.now c.index_mut-rows.ensures.value in
     let claimed_are = claimed_shown r.graph i r.inside c.index-terms-i.result c.index-terms-i.is c.index_mut-claimed.result.now c.index_mut-claimed.ensures.value in
     let told : AreClaims (g.T.Term.places c.index-terms-i.result) (times c.args.q (g.T.Term.value_of c.index-terms-i.result)) (base_at c.args.graph.now.bases i) c.index_mut-claimed.result.now c.index_mut-rows.result.now = rw (shown.0, claimed_are) (claims_at r.graph i r.inside c.index-terms-i.result c.index-terms-i.is) in
-    let same = long g at.After-at-1 in
+    let same = long g at.After-row-x-2 in
     simp to_z-of_z (record {
       pair = record { apart = r.can.swap.apart; from = rw same r.can.swap.from; onto = rw same r.can.swap.onto };
       before = base_at c.args.graph.now.bases i;
-      came = record { base = (here g at.After-row_mut-x).based.base; amount = c.args.a; some = r.low; is = came g at.After-at-1 };
+      came = record { base = (here g at.After-row-x).based.base; amount = c.args.a; some = r.low; is = came g at.After-row-x-2 };
       claims = told;
     })
 
@@ -138,7 +187,7 @@ renew-requires-clause-placed g c = λ k one.
     rw (c.deref.ensures.value, ← is) (place_in c.requires.graph c.args.hop.term c.requires.inside c.index-terms-i.result c.index-terms-i.is u lu)
 
 pub widen-requires-clause-placed : goal.widen-requires-clause-placed
-widen-requires-clause-placed g c = rw c.elements.ensures (here g (goal.at.widen-requires-clause-placed g c).After-row_mut-x).placed
+widen-requires-clause-placed g c = rw c.elements.ensures (here g (goal.at.widen-requires-clause-placed g c).After-row-x).placed
 
 pub widen-requires-clause-inside : goal.widen-requires-clause-inside
 widen-requires-clause-inside g c = λ u lu.
@@ -159,14 +208,7 @@ widen-requires-clause-rows g c =
     rw (table, c.elements.ensures) (c.in_ok-changes.ensures.rows ∙ shown.1)
 
 pub returns-clause-moved : goal.returns-clause-moved
-returns-clause-moved g c =
-    let bases = c.args.graph.now.bases in
-    let i = c.args.hop.term in
-    let y = c.exchange.new.x in
-    let at = (goal.at.returns-clause-moved g c).After-at-1 in
-    let moved = came g at in
-    let same = long g at in
-    rw (take_at y (drop (length y) (base_at bases i)) (length (base_at bases i)) same) (ap (λ z. set bases i z) moved)
+returns-clause-moved g c = moved g (goal.at.returns-clause-moved g c).After-row-x-2
 
 pub returns-clause-graph : goal.returns-clause-graph
 returns-clause-graph g c =
@@ -176,10 +218,7 @@ returns-clause-graph g c =
     let term = c.index-terms-i.result in
     let is = c.index-terms-i.is in
     let at = goal.at.returns-clause-graph g c in
-    let y = c.exchange.new.x in
-    let bases = c.args.graph.now.bases in
-    let same = long g at.After-at-1 in
-    let whole : take (length (base_at bases i)) (y ++ drop (length y) (base_at bases i)) ≡ y = take_at y (drop (length y) (base_at bases i)) (length (base_at bases i)) same in
+    let y = c.row-x-2.result.now in
     let e = c.in_ok-changes.ensures in
     let shown = rows_shown r.graph c.args.hop.term r.inside c.index-terms-i.result c.index-terms-i.is c.index_mut-rows.result.now c.index_mut-rows.ensures.value in
     let raised = rw shown.0 at (simp to_z-of_z at e.raised) in
@@ -187,7 +226,7 @@ returns-clause-graph g c =
     let mid = c.renew.new.unions.items in
     let table : c.index.result.now ≡ c.renew_kept.new.rows = c.index.ensures ∙ get_or-set_same c.args.graph.now.rows.items i c.renew_kept.new.rows c.index.result.now (rw (rows_count r.graph) r.inside) in
     let united = united_by r.graph i r.inside term is c.renew_kept.new.rows c.in_ok-changes.changes mid c.widen.new.unions.items raised.changes (rw (c.deref.ensures.value, c.deref-2.ensures.value) at c.renew.ensures.renewed) (rw (c.elements.ensures, table) at c.widen.ensures.widened) in
-    rw whole (claimed_after r.graph i r.inside term is y c.renew_kept.new.kept c.renew_kept.new.rows c.renew_kept.new.claimed _ (still g at.After-at-1 (here g at.After-row_mut-x)) noted (e.rows ∙ shown.1)
+    rw (changed g at.After-row-x-2) (claimed_after r.graph i r.inside term is y c.renew_kept.new.kept c.renew_kept.new.rows c.renew_kept.new.claimed _ (still g at.After-row-x-2 (here g at.After-row-x)) noted (e.rows ∙ shown.1)
     raised.claims united c.widen.ensures.turned refl refl refl refl refl)
 
 pub index_mut-note-requires : goal.index_mut-note-requires

@@ -1,9 +1,9 @@
-use Rattle.std.proofs.Common.{◌≡◌, ℕ, ◌<◌, length, sym, subst, ◌∙◌, ◌*ℤ◌, arith, FitsSigned}
+use Rattle.std.proofs.Common.{◌≡◌, ℕ, ◌<◌, List, [], ℤ, length, get_or, map, ap, subst, ◌∙◌, ◌*ℤ◌, arith, FitsSigned}
+use Rattle.std.proofs.lemmas.List.{get_or-map}
 use Rattle.std.proofs.lemmas.Int.{ints, to_z-of_z}
 use mir.Syntax.{w128}
 use Rattle.sfm_spec.specs.Families.{meanings}
 use Rattle.sfm_spec.specs.Walks.{base_at}
-use Rattle.sfm_law.proofs.Lists.{length-bases}
 use Rattle.sfm_exchange.specs.Graph.{IsGraph}
 use Rattle.sfm_exchange.specs.Scaled.{row_times}
 use Rattle.sfm_exchange.proofs.ClaimedGraphs.{are_terms, base_count, counted, shaped, whole_claimed}
@@ -16,16 +16,8 @@ use Rattle.sfm_exchange.proofs.multiples.restart_times.Goals as goal
 places_are : (g : given.Over) (c : After-len-n g) → c.len-n.result ≡ length c.args.graph.now.spots.items
 places_are g c = omega (arith, c.len-n.ensures, c.args.graph.now.spots.ok.0)
 
-pub are_multiples-requires-clause-count : goal.are_multiples-requires-clause-count
-are_multiples-requires-clause-count g c =
-    let t = g.T.Term in
-    let fq : FitsSigned w128 c.args.m = c.ranges.m in
-    let ts = meanings t.places t.value_of c.args.terms.now in
-    let o = c.args.other.now in
-    length-bases (c.args.m *ℤ o.q) ts c.args.bases c.requires.bases ∙ sym (length-bases o.q ts o.graph.now.bases c.requires.other.are_bases)
-
-pub are_multiples-requires-clause-factor : goal.are_multiples-requires-clause-factor
-are_multiples-requires-clause-factor g c = let fq : FitsSigned w128 c.args.m = c.ranges.m in simp to_z-of_z c.requires.times
+pub are_times-requires : goal.are_times-requires
+are_times-requires g c = let fq : FitsSigned w128 c.args.m = c.ranges.m in simp to_z-of_z c.requires.times
 
 pub restart-requires : goal.restart-requires
 restart-requires g c =
@@ -38,8 +30,8 @@ restart-requires g c =
     let same = places_are g (goal.at.restart-requires g c).After-len-n in
     record { bounded = rw same r.bounded; factor = simp to_z-of_z r.factor; graph = rw same r.graph; bases = simp to_z-of_z r.bases; small = r.small }
 
-pub returns-then-not-are_multiples-clause-graph : goal.returns-then-not-are_multiples-clause-graph
-returns-then-not-are_multiples-clause-graph g c =
+pub returns-then-not-are_times-clause-graph : goal.returns-then-not-are_times-clause-graph
+returns-then-not-are_times-clause-graph g c =
     let t = g.T.Term in
     let fq : FitsSigned w128 c.args.m = c.ranges.m in
     let f = c.requires.factor in
@@ -48,11 +40,11 @@ returns-then-not-are_multiples-clause-graph g c =
     let fp : FitsSigned w128 (c.args.m *ℤ c.args.other.now.q) = omega (arith, ints, f.low, f.high) in
     let r = c.requires in
     let G : ℕ → Type 0 = λ n. IsGraph t.places t.value_of t.fits c.args.terms.now n (c.args.m *ℤ c.args.other.now.q) c.restart.new.graph in
-    let same = places_are g (goal.at.returns-then-not-are_multiples-clause-graph g c).After-len-n in
+    let same = places_are g (goal.at.returns-then-not-are_times-clause-graph g c).After-len-n in
     whole_claimed (record { bounded = r.bounded; factor = r.factor; exact = subst G same (simp to_z-of_z at c.in_ok-restart.ensures.graph) })
 
-pub returns-then-not-are_multiples-clause-bases : goal.returns-then-not-are_multiples-clause-bases
-returns-then-not-are_multiples-clause-bases g c = c.in_ok-restart.ensures.bases
+pub returns-then-not-are_times-clause-bases : goal.returns-then-not-are_times-clause-bases
+returns-then-not-are_times-clause-bases g c = c.in_ok-restart.ensures.bases
 
 pub take_rows-requires : goal.take_rows-requires
 take_rows-requires g c =
@@ -67,7 +59,8 @@ returns-clause-graph g c =
     let o = r.other in
     let other = c.args.other.now.graph.now in
     let fit = are_terms o m.family m.submodular in
-    let same : (i : ℕ) → i < length other.bases → base_at c.args.bases i ≡ row_times c.args.m (base_at other.bases i) = simp to_z-of_z at (c.are_multiples.ensures c.if-not-are_multiples.false) in
+    let is : c.args.bases ≡ map (row_times c.args.m) other.bases = simp to_z-of_z at (c.are_times.ensures c.if-not-are_times.false) in
+    let same : (i : ℕ) → i < length other.bases → base_at c.args.bases i ≡ row_times c.args.m (base_at other.bases i) = λ i l. ap (λ (r : List (List ℤ)). get_or r i []) is ∙ get_or-map (row_times c.args.m) other.bases i [] [] l in
     let taken = c.in_ok-take_rows.ensures in
     record {
       bounded = r.bounded;

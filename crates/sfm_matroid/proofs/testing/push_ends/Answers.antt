@@ -1,4 +1,4 @@
-use Rattle.std.proofs.Common.{◌∙◌, ◌<◌, length, get_or, ap, pos, refl, arith, FitsSigned}
+use Rattle.std.proofs.Common.{◌∙◌, ◌<◌, ◌∷◌, [], length, get_or, ap, pos, refl, arith, FitsSigned}
 use Rattle.std.proofs.lemmas.Int.{to_z-of_z}
 use Rattle.std.proofs.lemmas.List.{length-map, length-take-le, take_all}
 use Rattle.std.proofs.lemmas.List.Elements.{All-get_or}
@@ -19,7 +19,8 @@ push-requires-clause-exist c =
     let ends = c.args.ends.now in
     let m = length c.args.demand.now.capacities in
     let b = pair-below ends m c.loop-e.e c.requires.below c.loop-e-test.true in
-    rw (ap length c.loop-e.invariant.capacities) (two-below c.in_ok-vec.field-0.items (get_or ends c.loop-e.e (0, 0)).0 (get_or ends c.loop-e.e (0, 0)).1 m c.in_ok-vec.ensures.items b.0 b.1)
+    let pair = get_or ends c.loop-e.e (0, 0) in
+    rw (ap length c.loop-e.invariant.capacities) (two-below (pair.0 ∷ pair.1 ∷ []) pair.0 pair.1 m refl b.0 b.1)
 
 pub push-requires-clause-amount : goal.push-requires-clause-amount
 push-requires-clause-amount c =
@@ -42,11 +43,12 @@ loop-e-preserved c =
     let inv = c.loop-e.invariant in
     let x = c.args.x.now in
     let le = c.loop-e-test.true in
+    let pair = get_or c.args.ends.now e (0, 0) in
     let lx : e < length x = omega (arith, le, c.requires.sized) in
     let fx : FitsSigned w128 (get_or x e (pos 0)) = amount_fits _ (All-get_or IsAmount x e (pos 0) lx c.requires.amounts) in
     record {
       demands = ap (λ d. d.demands) c.in_ok-push.ensures ∙ simp to_z-of_z (demands-push x c.loop-e.demand.demands e (pos 0) lx inv.demands);
-      lists = ap (λ d. d.lists) c.in_ok-push.ensures ∙ lists-push c.args.ends.now c.loop-e.demand.lists c.in_ok-vec.field-0.items e le inv.lists c.in_ok-vec.ensures.items;
+      lists = ap (λ d. d.lists) c.in_ok-push.ensures ∙ lists-push c.args.ends.now c.loop-e.demand.lists (pair.0 ∷ pair.1 ∷ []) e le inv.lists refl;
       capacities = ap (λ d. d.capacities) c.in_ok-push.ensures ∙ inv.capacities;
     }
 

@@ -63,7 +63,7 @@ loop-term-preserved c =
     let form = form_of c.args.instance.now in
     let text = c.args.text.now in
     let width = length c.elements-width.result.now in (
-      subst (λ (rows : List (List ℤ)). RowsSoFar word form text c.args.cursor.now c.read_labelled.new.cursor (c.loop-term.term-index + 1) rows) (sym c.in_ok-push.ensures)
+      subst (λ (rows : List (List ℤ)). RowsSoFar word form text c.args.cursor.now c.read_labelled.new.cursor (c.loop-term.term-index + 1) rows) (sym (rw c.deref.ensures.value at c.in_ok-push.ensures))
           (rows_more word form text c.args.cursor.now c.loop-term.cursor c.read_labelled.new.cursor c.loop-term.term-index width c.loop-term.rows c.in_ok-numbers.numbers.items (due d) c.loop-term.invariant.0
           (subst (λ (l : List ℕ). TakesSome text c.loop-term.cursor c.read_labelled.new.cursor (λ line. IsRowLine word l width line c.in_ok-numbers.numbers.items)) (sym (label d)) c.in_ok-numbers.ensures.read)),
       rw (← c.lines-lines.ensures.lines) (c.next-spot.ensures c.loop-term.term-index (rw c.lines-lines.ensures.lines c.loop-term.invariant.1) (rw c.lines-lines.ensures.lines (labelled d))),

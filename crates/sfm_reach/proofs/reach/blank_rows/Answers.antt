@@ -9,7 +9,7 @@ returns g c =
     sized_all t.places c.args.terms.now c.loop-term.rows.items (rw done at c.loop-term.invariant)
 
 pub loop-term-init : goal.loop-term-init
-loop-term-init g c = rw c.new-rows.ensures.items (record { count = refl; lengths = λ i l. absurd (omega (arith, l)) })
+loop-term-init g c = rw c.in_ok-rows.ensures.items (record { count = refl; lengths = λ i l. absurd (omega (arith, l)) })
 
 pub loop-term-preserved : goal.loop-term-preserved
 loop-term-preserved g c =

@@ -1,9 +1,8 @@
-use Rattle.std.proofs.Common.{◌≡◌, ◌^◌, length, sym, ap, ◌∙◌, FitsSigned, arith}
+use Rattle.std.proofs.Common.{◌≡◌, length, ap, ◌∙◌, FitsSigned, arith}
 use Rattle.std.proofs.lemmas.Int.{ints, to_z-of_z}
-use Rattle.std.proofs.lemmas.List.{length-map, with_items_is}
+use Rattle.std.proofs.lemmas.List.{length-map}
 use mir.Syntax.{w128}
 use Rattle.sfm_spec.specs.Families.{sized_shift}
-use Rattle.sfm_sizes.proofs.Sized.{sized-small}
 use Rattle.sfm_slope.proofs.sections.section.Given as given
 use Rattle.sfm_slope.proofs.sections.section.Goals as goal
 use Rattle.sfm_slope.proofs.sections.section.Goals.{After-deref}

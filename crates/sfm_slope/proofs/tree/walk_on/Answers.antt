@@ -1,12 +1,11 @@
-use Rattle.std.proofs.Common.{◌≡◌, ◌+◌, ◌^◌, ◌≤◌, length, map, ap, sym, ◌∙◌, FitsSigned, arith}
+use Rattle.std.proofs.Common.{◌≡◌, ◌+◌, ◌≤◌, length, map, ap, ◌∙◌, FitsSigned, arith}
 use Rattle.std.proofs.lemmas.Int.{ints, to_z-of_z}
-use Rattle.std.proofs.lemmas.List.{length-map, with_items_is}
+use Rattle.std.proofs.lemmas.List.{length-map}
 use mir.Syntax.{w128}
 use Rattle.sfm_spec.specs.Families.{meanings, sized_shift}
 use Rattle.sfm_spec.specs.Walks.{IsWalkChain, few_walks}
 use Rattle.sfm_spec.proofs.LeastWalks.{few_walks_small}
 use Rattle.sfm_exchange.proofs.ClaimedGraphs.{counted, shaped}
-use Rattle.sfm_sizes.proofs.Sized.{sized-small}
 use Rattle.sfm_stage.proofs.Chains.{walks_join}
 use Rattle.sfm_stage.proofs.Times.{bases_multiple}
 use Rattle.sfm_slope.proofs.tree.walk_on.Given as given

@@ -1,18 +1,16 @@
 use Rattle.std.proofs.Common.{◌≡◌, ℕ, suc, ◌<◌, ◌*◌, ◌^◌, ◌++◌, ◌∷◌, [], List, length, map, take, drop, get_or, pos, ◌≤ℤ◌, sym, ap, subst, ◌∙◌, arith, FitsSigned}
 use Rattle.std.proofs.lemmas.Int.{ints, to_z-of_z}
-use Rattle.std.proofs.lemmas.List.{map_more, take_all, take_at}
+use Rattle.std.proofs.lemmas.List.{map_more, take_all}
 use Rattle.std.specs.List.{All}
 use Rattle.std.proofs.lemmas.List.Elements.{All-get_or}
 use mir.Syntax.{w128}
 use Rattle.sfm_spec.specs.Sets.{Has}
 use Rattle.sfm_spec.specs.Bounds.{IsAtMost}
-use Rattle.sfm_spec.specs.Terms.{exchanged}
 use Rattle.sfm_spec.specs.Families.{Meaning, meanings, AreTerms}
 use Rattle.sfm_spec.specs.Labels.{FallsAlong}
 use Rattle.sfm_spec.specs.Walks.{Step, AllCanMove, CanMove, IsWalkMove, base_at, last_of, term_at}
 use Rattle.sfm_spec.proofs.Duality.{meanings-terms}
 use Rattle.sfm_spec.proofs.Gain.{bases_kept}
-use Rattle.sfm_spec.proofs.Sums.{length-exchanged}
 use Rattle.sfm_spec.proofs.Walks.{terms-at}
 use Rattle.sfm_law.specs.Walk.{step_of}
 use Rattle.sfm_law.proofs.Lists.{length-meanings, meanings-at, placed-meanings}
@@ -120,8 +118,8 @@ places_are g c l =
     c.index-terms-term.result l c.index-terms-term.is in
     ap (λ (u : Meaning). u.places) m ∙ sym c.elements.ensures
 
-pub row_mut-row-requires : goal.row_mut-row-requires
-row_mut-row-requires g c = row_in g (goal.at.row_mut-row-requires g c).In-loop-to
+pub exchange_places-requires-clause-inside : goal.exchange_places-requires-clause-inside
+exchange_places-requires-clause-inside g c = row_in g (goal.at.exchange_places-requires-clause-inside g c).In-loop-to
 
 pub bounds-terms-term : goal.bounds-terms-term
 bounds-terms-term g c = inside g (goal.at.bounds-terms-term g c).In-loop-to
@@ -135,7 +133,7 @@ pub exchange_places-requires-clause-sized : goal.exchange_places-requires-clause
 exchange_places-requires-clause-sized g c =
     let at = goal.at.exchange_places-requires-clause-sized g c in
     let places = places_are g at.After-elements (inside g at.In-loop-to) in
-    rw c.row_mut-row.ensures.value (sized g at.In-loop-to ∙ ap length places)
+    sized g at.In-loop-to ∙ ap length places
 
 pub exchange_places-requires-clause-from : goal.exchange_places-requires-clause-from
 exchange_places-requires-clause-from g c =
@@ -179,9 +177,8 @@ exchange_places-requires-clause-small g c =
     let small = stepped_small ts k.n c.args._q k.fit c.args.bases.now r.bases first c.args.a
     (omega (arith, ints, o)) d (before g at) (step g at ∷ behind g at) falls r.small k.high
     c.loop-to.bases k.moved in
-    rw c.row_mut-row.ensures.value
-    (All-get_or (λ x. All (IsAtMost (2 * 10 ^ 30)) x) c.loop-to.bases (step g at).term []
-    (row_in g at) small)
+    All-get_or (λ x. All (IsAtMost (2 * 10 ^ 30)) x) c.loop-to.bases (step g at).term []
+    (row_in g at) small
 
 pub loop-to-preserved : goal.loop-to-preserved
 loop-to-preserved g c =
@@ -198,11 +195,6 @@ loop-to-preserved g c =
     let term = (get_or items i (0, 0)).1 in
     let places = places_are g at.After-elements (inside g l) in
     let (u, v, lu, lv, begins, ends, is) = c.exchange_places.ensures in
-    let row = base_at c.loop-to.bases term in
-    let y : c.exchange_places.new.x ≡ exchanged row u v c.args.a
-    = rw c.row_mut-row.ensures.value at (simp to_z-of_z at is) in
-    let long : length c.exchange_places.new.x ≡ length row = ap length y ∙ length-exchanged row u v c.args.a in
-    let whole = take_at c.exchange_places.new.x (drop (length c.exchange_places.new.x) row) (length row) long in
     let more = map_more step_of items i (0, 0) c.loop-to-test.true in
     let after = stepped ts k.n c.args._q k.fit c.args.bases.now c.requires.bases first c.args.a
     (omega (arith, ints, o)) (before g l) (step g l) (behind g l) k.can c.loop-to.bases k.moved
@@ -210,7 +202,7 @@ loop-to-preserved g c =
     (rw places ends) in
     simp to_z-of_z (record {
       at = rw more (sym (last_append first (before g l) (step g l ∷ [])));
-      moved = rw (whole, y, more) after;
+      moved = rw (simp to_z-of_z at is, more) after;
     })
 
 -- all steps have moved

@@ -1,5 +1,5 @@
-use Rattle.std.proofs.Common.{◌≡◌, suc, ◌≤◌, ◌+◌, ◌++◌, [], length, drop, get_or, replicate, sym, ap, ◌∙◌, arith}
-use Rattle.std.proofs.lemmas.List.{append_assoc, append-nil, at_drop_more, drop_all, get_or_read}
+use Rattle.std.proofs.Common.{◌≡◌, suc, ◌<◌, ◌≤◌, ◌+◌, ◌++◌, [], length, drop, get_or, replicate, sym, ap, ◌∙◌, arith}
+use Rattle.std.proofs.lemmas.List.{append_assoc, append-nil, at_drop_more, drop_all}
 use Rattle.sfm_split.specs.Cells.{joined, owners}
 use Rattle.sfm_split.proofs.Rows.{cells_of}
 use Rattle.sfm_split.proofs.cells.Cells.of.Goals.{After-loop-i}
@@ -10,7 +10,7 @@ whole c =
     let lists = c.args.lists.now in
     let i = c.loop-i.i in
     let whos = c.loop-i.whos.items in
-    let past : length lists ≤ i = c.loop-i-test.false in
+    let past : length lists ≤ i = rw c.len-i-end.ensures at c.loop-i-test.false in
     sym (append-nil whos) ∙ (ap (λ ls. whos ++ owners i ls) (sym (drop_all i lists past)) ∙ c.loop-i.invariant.whos)
 
 all : (c : After-loop-i) → c.loop-i.slots.items ≡ joined c.args.lists.now
@@ -18,7 +18,7 @@ all c =
     let lists = c.args.lists.now in
     let i = c.loop-i.i in
     let slots = c.loop-i.slots.items in
-    let past : length lists ≤ i = c.loop-i-test.false in
+    let past : length lists ≤ i = rw c.len-i-end.ensures at c.loop-i-test.false in
     sym (append-nil slots) ∙ (ap (λ ls. slots ++ joined ls) (sym (drop_all i lists past)) ∙ c.loop-i.invariant.slots)
 
 pub loop-i-preserved : goal.loop-i-preserved
@@ -26,8 +26,8 @@ loop-i-preserved c =
     let lists = c.args.lists.now in
     let i = c.loop-i.i in
     let inv = c.loop-i.invariant in
-    let lt = c.loop-i-test.true in
-    let is = c.as_slice.ensures ∙ get_or_read lists i c.index-lists-i.result lt c.index-lists-i.is [] in
+    let lt : i < length lists = rw c.len-i-end.ensures at c.loop-i-test.true in
+    let is = c.at.ensures in
     let list = get_or lists i [] in
     let one : i + 1 ≡ suc i = omega arith in
     let whos = c.loop-i.whos.items in
@@ -38,7 +38,7 @@ loop-i-preserved c =
     }
 
 pub of-requires : goal.of-requires
-of-requires c = record { below = rw (c.deref.ensures.value, whole (goal.at.of-requires c).After-loop-i) (cells_of c.args.m c.args.lists.now c.requires.exist).owned }
+of-requires c = record { below = rw (c.deref.ensures.value, c.len.ensures, whole (goal.at.of-requires c).After-loop-i) (cells_of c.args.m c.args.lists.now c.requires.exist).owned }
 
 pub of-requires-2 : goal.of-requires-2
 of-requires-2 c =

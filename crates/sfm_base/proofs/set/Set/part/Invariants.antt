@@ -1,7 +1,0 @@
--- the part so far has of the places so far those that the set has
-use Rattle.std.proofs.Common.{◌≡◌, ℕ, ◌<◌, false, length, get_or}
-use Rattle.sfm_base.proofs.set.Set.part.Given as goal
-
-abbrev pub invariant-loop-j : goal.invariant-loop-j
-invariant-loop-j l = (length l.part ≡ length l.places)
-    × ((k : ℕ) → k < l.j → get_or l.part k false ≡ get_or l.self (get_or l.places k 0) false)
