@@ -6,43 +6,17 @@ ghost use Rattle.sfm_spec.specs.Laws.{ones};
 ghost use Rattle.sfm_sizes.specs.Sizes.{AreElementSizes};
 ghost use Rattle.sfm_cert.specs.{Form.{IsFormed}, Header.{header_text}, Solved.{answer_of, form_of}};
 ghost use Rattle.sfm_text.specs.GoodText.{IsRefusalOf};
-ghost use Rattle.sfm_due.specs.{Due.{IsAsked, IsSolved, IsSolvedBy, Question}, Meanings.{meanings_of, question_of}, Solving.{Gives, IsTrueAnswer}};
+ghost use Rattle.sfm_due.specs.{Due.{IsAsked, IsSolved, IsSolvedBy, Question}, Meanings.{meanings_of, question_of}, Solving.{IsTrueAnswer}};
 
 use sfm_base::Memory;
 use sfm_cert::{Header, Solved, write_with};
-use sfm_extreme::{Certified, Proved, blocks, certify};
+use sfm_extreme::{Minimisers, Proved, read_minimisers};
 use sfm_kind::Instance;
 use sfm_sizes::ones;
 use sfm_slope::partition_by;
 use sfm_text::{TextEnd, read_instance};
-use sfm_walk::{Optimum, minimise};
+use sfm_walk::minimise;
 use std::alloc::{AllocError, Global};
-
-/// The answer that bases which prove the minimum give, with all slopes.
-fn answer_by(
-    alloc: Global,
-    instance: &Instance,
-    sizes: &[i128],
-    optimum: Optimum,
-    found: Proved,
-) -> Result<Solved, Memory>
-    requires sizes { AreElementSizes (length instance.now.names) sizes.now }
-    requires gives { Gives instance.now optimum.bases found }
-    ensures { IfOk result (λ s. IsTrueAnswer instance.now sizes.now (answer_of s)) }
-{
-    let terms = instance.terms();
-    let n = instance.names_len();
-    let blocks = blocks(alloc, terms, n, &optimum.bases)?;
-    let breaks = partition_by(alloc, terms, n, sizes)?;
-    Ok(Solved {
-        value: found.value,
-        least: found.least,
-        greatest: found.greatest,
-        blocks,
-        bases: optimum.bases,
-        breaks,
-    })
-}
 
 /// The answer of an instance where each element has its size, with bases that prove it.
 ///
@@ -56,10 +30,22 @@ pub fn solve_by(alloc: Global, instance: &Instance, sizes: &[i128]) -> Result<So
     let terms = instance.terms();
     let n = instance.names_len();
     let optimum = minimise(alloc, terms, n, 0, 1)?;
-    match certify(alloc, terms, n, 0, 1, &optimum.bases)? {
-        Certified::Proved(found) => answer_by(alloc, instance, sizes, optimum, found),
-        Certified::NotOptimal { walk: _ } => unreachable!(),
-    }
+    let found = read_minimisers(alloc, terms, n, &optimum.bases)?;
+    let breaks = partition_by(alloc, terms, n, sizes)?;
+    let Minimisers { proved, blocks } = found;
+    let Proved {
+        value,
+        least,
+        greatest,
+    } = proved;
+    Ok(Solved {
+        value,
+        least,
+        greatest,
+        blocks,
+        bases: optimum.bases,
+        breaks,
+    })
 }
 
 /// The text of a right file, with that first line, for an instance where each element has its size.

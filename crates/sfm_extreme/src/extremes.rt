@@ -93,8 +93,8 @@ pub fn certify_at<T: Term>(
     told_by(alloc, terms, q, shift, &reading)
 }
 
-// What is told by all that was read off bases.
-fn told_by<T: Term>(
+/// What is told by all that was read off bases.
+pub(crate) fn told_by<T: Term>(
     alloc: Global,
     terms: &[T],
     q: i128,

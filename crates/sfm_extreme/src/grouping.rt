@@ -4,11 +4,11 @@
 ghost use Rattle.std.specs.{Prelude.{◌≡◌, ℕ, ◌<◌, ◌≤◌, length, map, pos, IfOk, slice_index}, List.{All}};
 ghost use Rattle.sfm_spec.specs.{Bounds.{AreBounded, IsEntry}, Blocks.{AreBlocks, Generate}, Families.{meanings, even_shift, AreBases, Prove}};
 ghost use Rattle.sfm_exchange.specs.Bits.{bit_in, set_at};
-ghost use Rattle.sfm_extreme.specs.{Blocks.{block_of}, Pulls.{AreBlocksBy, AreGrouped, AreSquare, IsMembers, needs_upto}};
+ghost use Rattle.sfm_extreme.specs.{Blocks.{block_of}, Reading.{IsReading}, Pulls.{AreBlocksBy, AreGrouped, AreSquare, IsMembers, needs_upto}};
 
 use crate::firsts::firsts_in_order;
 use crate::pulling::pull_rows;
-use crate::reading::read_at;
+use crate::reading::{Reading, read_at};
 use sfm_base::{Memory, Rows, Set};
 use sfm_exchange::Bits;
 use sfm_law::Term;
@@ -58,6 +58,25 @@ pub fn blocks<T: Term>(
 {
     let shift = vec![in alloc; 0i128; n]?;
     let reading = read_at(alloc, terms, 1, &shift, bases)?;
+    blocks_read(alloc, terms, n, &reading)
+}
+
+/// The blocks, by what was read off bases that prove the minimum.
+pub(crate) fn blocks_read<T: Term>(
+    alloc: Global,
+    _terms: &[T],
+    _n: usize,
+    reading: &Reading<T::Note>,
+) -> Result<Vec<Block>, Memory>
+    requires reading { IsReading T.places T.value_of T.size_of T.fits _terms.now _n (pos 1)
+        (even_shift _n (pos 0)) reading.now }
+    requires prove { Prove (meanings T.places T.value_of _terms.now) _n (pos 1)
+        (even_shift _n (pos 0)) reading.now.graph.bases }
+    ensures exact { IfOk result (λ r. AreBlocks (meanings T.places T.value_of _terms.now) _n (pos 1)
+        (even_shift _n (pos 0)) (map block_of r.items)) }
+    ensures generate { IfOk result (λ r. Generate (meanings T.places T.value_of _terms.now) _n
+        (pos 1) (even_shift _n (pos 0)) (map block_of r.items)) }
+{
     let mut outside = reading.reached;
     outside.union_with(&reading.leading);
     blocks_by(alloc, &reading.graph.unions, &outside)

@@ -8,9 +8,11 @@ mod extremes;
 mod firsts;
 mod grouping;
 mod joining;
+mod minimisers;
 mod pulling;
 mod reading;
 
 pub use deficit::deficit_of;
 pub use extremes::{Certified, Proved, certify, certify_at};
 pub use grouping::{Block, blocks};
+pub use minimisers::{Minimisers, read_minimisers};

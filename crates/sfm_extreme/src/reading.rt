@@ -6,7 +6,7 @@ ghost use Rattle.sfm_spec.specs.{Sets.{magnitudes}, Bounds.{AreBounded, IsEntry,
 ghost use Rattle.sfm_extreme.specs.Reading.{IsReading};
 
 use sfm_base::{Memory, Rows};
-use sfm_exchange::{Bits, Graph, Signs, copy_rows, graph_at, reached_from, signs_of};
+use sfm_exchange::{Bits, Graph, Signs, graph_at, reached_from, signs_of};
 use sfm_law::{Term, rest_of};
 use std::alloc::Global;
 
@@ -60,7 +60,7 @@ pub fn read_at<T: Term>(
     ensures bases { IfOk result (λ r. r.graph.bases ≡ bases.now) }
 {
     let z = rest_of(alloc, terms, shift, bases)?;
-    let copied = copy_rows(alloc, bases)?;
+    let copied = bases.copy(alloc)?;
     let graph = graph_at(alloc, terms, shift.len(), q, copied)?;
     let signs = signs_of(&z);
     let reached = reached_from(&graph.unions, &signs.under);

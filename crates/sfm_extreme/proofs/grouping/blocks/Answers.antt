@@ -1,22 +1,20 @@
-use Rattle.std.proofs.Common.{◌≡◌, map, replicate, pos, ◌≤ℤ◌, rules, arith}
+use Rattle.std.proofs.Common.{◌≡◌, replicate, pos, rules, arith}
 use Rattle.std.proofs.lemmas.Int.{ints}
 use Rattle.std.proofs.lemmas.List.{length-replicate}
-use Rattle.std.proofs.lemmas.Result.{IfOk-weaker}
 use Rattle.sfm_spec.specs.Bounds.{IsEntry}
-use Rattle.sfm_spec.specs.Blocks.{AreBlocks, Generate}
-use Rattle.sfm_spec.specs.Families.{meanings, even_shift, AreTerms, Prove}
-use Rattle.sfm_spec.proofs.Duality.{meanings-terms}
-use Rattle.sfm_spec.proofs.Generated.{blocks_generate}
-use Rattle.sfm_law.proofs.Lists.{placed-meanings}
-use Rattle.sfm_exchange.proofs.Minimisers.{link_in}
-use Rattle.sfm_exchange.proofs.WholeGraphs.{unions_count}
-use Rattle.sfm_extreme.specs.Blocks.{block_of}
-use Rattle.sfm_extreme.specs.Pulls.{AreBlocksBy}
 use Rattle.sfm_extreme.specs.Reading.{IsReading}
 use Rattle.sfm_extreme.proofs.Deficits.{even_small}
-use Rattle.sfm_extreme.proofs.Generating.{blocks_are}
-use Rattle.sfm_extreme.proofs.Tellings.{tells}
+use Rattle.sfm_extreme.proofs.grouping.blocks.Given as given
 use Rattle.sfm_extreme.proofs.grouping.blocks.Goals as goal
+use Rattle.sfm_extreme.proofs.grouping.blocks.Goals.{In_ok-reading}
+
+-- what was read off the bases, with no shift
+reads : (g : given.Over) (c : In_ok-reading g) → let t = g.T.Term in
+    IsReading t.places t.value_of t.size_of t.fits c.args.terms.now c.args.n (pos 1) (replicate c.args.n (pos 0)) c.in_ok-reading.reading
+reads g c =
+    let n = c.args.n in
+    let same : c.deref.result.now ≡ replicate n (pos 0) = search rules in
+    rw (same, length-replicate n (pos 0)) at c.in_ok-reading.ensures.reading
 
 pub read_at-requires-clause-bounded : goal.read_at-requires-clause-bounded
 read_at-requires-clause-bounded g c =
@@ -28,45 +26,14 @@ read_at-requires-clause-shifts g c =
     let zero : IsEntry (pos 0) = record { low = omega (arith, ints); high = omega (arith, ints) } in
     even_small c.deref.result.now c.args.n (pos 0) zero c.requires.bounded.few (search rules)
 
-pub blocks_by-requires-clause-few : goal.blocks_by-requires-clause-few
-blocks_by-requires-clause-few g c =
-    let h = c.in_ok-reading.ensures.reading in
-    let few = h.whole.bounded.few in
-    rw (c.deref-2.ensures.value, unions_count h.whole) few
-
-pub blocks_by-requires-clause-links : goal.blocks_by-requires-clause-links
-blocks_by-requires-clause-links g c =
-    let m = g.met.T.Term in
-    rw c.deref-2.ensures.value (link_in c.in_ok-reading.ensures.reading.whole m.family m.submodular)
-
-pub returns-clause-exact : goal.returns-clause-exact
-returns-clause-exact g c =
-    let t = g.T.Term in
-    let m = g.met.T.Term in
-    let n = c.args.n in
-    let shift = replicate n (pos 0) in
-    let ts = meanings t.places t.value_of c.args.terms.now in
-    let reading = c.in_ok-reading.reading in
-    let same : c.deref.result.now ≡ shift = search rules in
-    let h : IsReading t.places t.value_of t.size_of t.fits c.args.terms.now n (pos 1) shift reading = rw (same, length-replicate n (pos 0)) at c.in_ok-reading.ensures.reading in
-    let prove : Prove ts n (pos 1) shift reading.graph.bases = rw c.in_ok-reading.ensures.bases c.requires.prove in
-    IfOk-weaker c.blocks_by.result _ (λ r. AreBlocks ts n (pos 1) shift (map block_of r.items)) (λ r (k : AreBlocksBy reading.graph.unions.items c.union_with.new.self (map block_of r.items)).
-    let told = tells h m.family m.submodular prove c.union_with.new.self c.union_with.ensures k.rows k.pulls in
-    blocks_are ts n (pos 1) shift _ k.rows told k.firsts k.are_firsts (map block_of r.items) k.grouped) (rw c.deref-2.ensures.value at c.blocks_by.ensures)
-
-pub returns-clause-generate : goal.returns-clause-generate
-returns-clause-generate g c =
-    let t = g.T.Term in
-    let m = g.met.T.Term in
-    let n = c.args.n in
-    let ts = meanings t.places t.value_of c.args.terms.now in
-    let fit : AreTerms n ts = meanings-terms n t.places t.value_of m.family m.submodular c.args.terms.now (placed-meanings n t.places t.value_of c.args.terms.now c.requires.bounded.placed) in
-    let low : pos 0 ≤ℤ pos 1 = omega (arith, ints) in
-    IfOk-weaker c.blocks_by.result _ (λ r. Generate ts n (pos 1) (even_shift n (pos 0)) (map block_of r.items)) (λ r (h : AreBlocks ts n (pos 1) (even_shift n (pos 0)) (map block_of r.items)).
-    blocks_generate ts n (pos 1) (even_shift n (pos 0)) low fit (map block_of r.items) h) (returns-clause-exact g c)
-
 pub read_at-requires-clause-bases : goal.read_at-requires-clause-bases
 read_at-requires-clause-bases g c = c.requires.bases
 
 pub read_at-requires-clause-small : goal.read_at-requires-clause-small
 read_at-requires-clause-small g c = c.requires.small
+
+pub blocks_read-requires-clause-reading : goal.blocks_read-requires-clause-reading
+blocks_read-requires-clause-reading g c = reads g (goal.at.blocks_read-requires-clause-reading g c).In_ok-reading
+
+pub blocks_read-requires-clause-prove : goal.blocks_read-requires-clause-prove
+blocks_read-requires-clause-prove g c = rw c.in_ok-reading.ensures.bases c.requires.prove

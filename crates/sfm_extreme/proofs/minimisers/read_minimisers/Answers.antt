@@ -1,0 +1,44 @@
+use Rattle.std.proofs.Common.{◌≡◌, replicate, pos, rules, arith}
+use Rattle.std.proofs.lemmas.Int.{ints}
+use Rattle.std.proofs.lemmas.List.{length-replicate}
+use Rattle.sfm_spec.specs.Bounds.{IsEntry}
+use Rattle.sfm_extreme.specs.Reading.{IsReading}
+use Rattle.sfm_extreme.proofs.Deficits.{even_small}
+use Rattle.sfm_extreme.proofs.minimisers.read_minimisers.Given as given
+use Rattle.sfm_extreme.proofs.minimisers.read_minimisers.Goals as goal
+use Rattle.sfm_extreme.proofs.minimisers.read_minimisers.Goals.{In_ok-reading}
+
+-- what was read off the bases, with no shift
+reads : (g : given.Over) (c : In_ok-reading g) → let t = g.T.Term in
+    IsReading t.places t.value_of t.size_of t.fits c.args.terms.now c.args.n (pos 1) (replicate c.args.n (pos 0)) c.in_ok-reading.reading
+reads g c =
+    let n = c.args.n in
+    let same : c.deref.result.now ≡ replicate n (pos 0) = search rules in
+    rw (same, length-replicate n (pos 0)) at c.in_ok-reading.ensures.reading
+
+pub read_at-requires-clause-bounded : goal.read_at-requires-clause-bounded
+read_at-requires-clause-bounded g c =
+    let same : c.deref.result.now ≡ replicate c.args.n (pos 0) = search rules in
+    rw (same, length-replicate c.args.n (pos 0)) c.requires.bounded
+
+pub read_at-requires-clause-shifts : goal.read_at-requires-clause-shifts
+read_at-requires-clause-shifts g c =
+    let zero : IsEntry (pos 0) = record { low = omega (arith, ints); high = omega (arith, ints) } in
+    even_small c.deref.result.now c.args.n (pos 0) zero c.requires.bounded.few (search rules)
+
+pub read_at-requires-clause-bases : goal.read_at-requires-clause-bases
+read_at-requires-clause-bases g c = c.requires.bases
+
+pub read_at-requires-clause-small : goal.read_at-requires-clause-small
+read_at-requires-clause-small g c = c.requires.small
+
+pub blocks_read-requires-clause-reading : goal.blocks_read-requires-clause-reading
+blocks_read-requires-clause-reading g c = reads g (goal.at.blocks_read-requires-clause-reading g c).In_ok-reading
+
+pub blocks_read-requires-clause-prove : goal.blocks_read-requires-clause-prove
+blocks_read-requires-clause-prove g c = rw c.in_ok-reading.ensures.bases c.requires.prove
+
+pub told_by-requires-clause-shifts : goal.told_by-requires-clause-shifts
+told_by-requires-clause-shifts g c =
+    let zero : IsEntry (pos 0) = record { low = omega (arith, ints); high = omega (arith, ints) } in
+    even_small c.deref-2.result.now c.args.n (pos 0) zero c.requires.bounded.few (search rules)
