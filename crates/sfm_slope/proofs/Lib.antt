@@ -9,3 +9,4 @@ pub mod Floors
 pub mod Starts
 pub mod Ones
 pub mod Reached
+pub mod Worthing

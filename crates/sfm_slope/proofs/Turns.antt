@@ -3,7 +3,7 @@ use Rattle.std.proofs.Common.{◌≡◌, ◌≢◌, ℕ, ◌^◌, Bool, List, le
 use Rattle.std.proofs.lemmas.Int.{ints}
 use Rattle.sfm_spec.specs.Sets.{size}
 use Rattle.sfm_spec.specs.Slopes.{IsSameSlope}
-use Rattle.sfm_spec.specs.Families.{Meaning, AreTerms, IsAllowed, IsLeast, IsGreatest, sized_shift}
+use Rattle.sfm_spec.specs.Families.{Meaning, AreTerms, IsLeast, IsGreatest, sized_shift}
 use Rattle.sfm_spec.proofs.Search.{floor_places}
 use Rattle.sfm_base.specs.declared.slope.Slope.{Slope}
 use Rattle.sfm_sizes.specs.Sizes.{AreElementSizes}
@@ -76,11 +76,3 @@ module _ {terms : List Meaning} {n : ℕ} {sizes : List ℤ} (fit : AreTerms n t
           slope.den r.positive r.even found
           (subst (λ k. IsLargerBelow terms n sizes slope.num slope.den k found) wl.size h))
           near
-
-      -- it has n places
-      pub near_places : length found ≡ n
-      near_places = ⊎_elim (λ least. least.minimiser.places) (λ h. h.least.minimiser.places) near
-
-      -- and is allowed
-      pub near_allowed : IsAllowed terms found
-      near_allowed = ⊎_elim (λ least. least.minimiser.allowed) (λ h. h.least.minimiser.allowed) near

@@ -1,5 +1,5 @@
 -- Sums of values, with their bounds.
-use Rattle.std.proofs.Common.{◌≡◌, ℕ, zero, suc, ◌+◌, ◌<◌, ◌^◌, Bool, false, List, [], ◌∷◌, ◌++◌, length, map, get_or, take, Option, Some, None, unwrap_or, ℤ, pos, neg_ℤ, ◌+ℤ◌, ◌≤ℤ◌, refl, ap, ◌∙◌, arith}
+use Rattle.std.proofs.Common.{◌≡◌, ℕ, zero, suc, ◌+◌, ◌<◌, ◌^◌, Bool, false, List, [], ◌∷◌, ◌++◌, length, map, get_or, take, take_all, le_refl, Option, Some, None, unwrap_or, ℤ, pos, neg_ℤ, ◌+ℤ◌, ◌≤ℤ◌, refl, ap, ◌∙◌, arith}
 use Rattle.std.proofs.lemmas.Int.{ints}
 use Rattle.std.proofs.lemmas.List.{length-map, length-replicate}
 use Rattle.sfm_spec.specs.Sets.{empty_set, part}
@@ -29,6 +29,10 @@ module _ {X : Type 0} (places : X → List ℕ) (value : X → SetFunction) (bou
 
   pub sum_given : (xs : List X) (k : ℕ) → total_of (map bound xs) ≤ℤ pos (10 ^ 18) → IsGiven (sum_at (meanings places value (take k xs)) s)
   sum_given xs k h = let r = sum_bound xs k in record { low = omega (arith, ints, r.0, r.1, h); high = omega (arith, ints, r.0, r.1, h) }
+
+  -- and so does that of all
+  pub all_given : (xs : List X) → total_of (map bound xs) ≤ℤ pos (10 ^ 18) → IsGiven (sum_at (meanings places value xs) s)
+  all_given xs h = rw (take_all (length xs) xs (le_refl (length xs))) at (sum_given xs (length xs) h)
 
 -- the value at a part, or 0, lies within the bound of a term
 pub value_small : {X : Type 0} (places : X → List ℕ) (value : X → SetFunction) (bound : X → ℤ)

@@ -1,23 +1,27 @@
 // The least minimiser at a slope. A graph of 64 times the terms goes from slope to slope: its bases at the slope before are
 // bases still, and z differs by the shift alone, so few walks are left. At a slope it is taken to the 64th below it. Where the
 // least minimiser there is large enough to part the search, or that 64th is the slope, nothing more is needed. Else, at a
-// slope p/q, q times its bases are where few walks are left. Where q is too large for this, they begin at the first bases.
+// slope p/q, q times its bases are where few walks are left. Where q is too large for this, they begin at the first bases. What
+// a minimiser is worth follows from the sum of min(z, 0), which it attains.
 ghost use Rattle.std.specs.{Prelude.{◌≡◌, ◌^◌, true, length, map, pos, ◌*ℤ◌, ◌≤ℤ◌, IfOk, OnOk}, List.{All}};
-ghost use Rattle.sfm_spec.specs.{Bounds.{IsAtMost}, Families.{meanings, sized_shift, IsLeast}, Sets.{magnitudes}, Slopes.{IsSameSlope}};
+ghost use Rattle.sfm_spec.specs.{Bounds.{IsAtMost}, Families.{meanings, shifted_at, sized_shift, IsLeast}, Sets.{magnitudes}, Slopes.{IsSameSlope}};
 ghost use Rattle.sfm_exchange.specs.Graph.{IsClaimed};
 ghost use Rattle.sfm_sizes.specs.Sizes.{AreElementSizes};
-ghost use Rattle.sfm_slope.specs.{Nears.{IsLeastNear}, Searches.{IsSearch}};
+ghost use Rattle.sfm_slope.specs.{Nears.{IsLeastNear}, Searches.{IsSearch}, Worths.{IsWorth}};
 
+use crate::attained::{Attained, worth_by};
 use crate::rows::{are_small, first_rows, grains, rows_times};
 use crate::search::{GRAIN, Search, set_shift};
-use sfm_base::{Memory, Set, Slope, Steps};
+use crate::worth::Worth;
+use sfm_base::{Memory, Slope, Steps};
 use sfm_exchange::{Beside, Graph, restart, restart_by, restart_times};
+use sfm_extreme::deficit_of;
 use sfm_law::Term;
 use sfm_walk::{improve, least_minimiser};
 use std::alloc::Global;
 
-/// The least minimiser at a slope; or, where that of a slope just below has more than so many places already, this one, which
-/// is found on the way. It lies within the other.
+/// The least minimiser at a slope, with what it is worth; or, where that of a slope just below has more than so many places
+/// already, this one, which is found on the way. It lies within the other.
 ///
 /// # Errors
 ///
@@ -28,19 +32,20 @@ pub fn least_near<T: Term>(
     sizes: &[i128],
     slope: Slope,
     size: usize,
-) -> Result<Set, Memory>
+) -> Result<Worth, Memory>
     requires sizes { AreElementSizes (length sizes.now) sizes.now }
     requires search { IsSearch T.places T.value_of T.size_of T.fits terms.now
         (length sizes.now) search.old }
     requires small { IsAtMost (10 ^ 19) slope.num }
     ensures search { OnOk result (IsSearch T.places T.value_of T.size_of T.fits terms.now
         (length sizes.now) search.new) }
-    ensures least { IfOk result (IsLeastNear (meanings T.places T.value_of terms.now)
-        (length sizes.now) sizes.now slope.num slope.den size) }
+    ensures least { IfOk result (λ r. IsLeastNear (meanings T.places T.value_of terms.now)
+        (length sizes.now) sizes.now slope.num slope.den size r.set) }
+    ensures worth { IfOk result (IsWorth (meanings T.places T.value_of terms.now) sizes.now) }
 {
     let part = part_below(slope);
     let below = least_below(search, terms, sizes, part)?;
-    if is_part(slope, part) || below.size() > size {
+    if is_part(slope, part) || below.size > size {
         return Ok(below);
     }
     if slope.den > MOST_DENOMINATOR {
@@ -78,21 +83,22 @@ fn least_below<T: Term>(
     terms: &[T],
     sizes: &[i128],
     p: i128,
-) -> Result<Set, Memory>
+) -> Result<Worth, Memory>
     requires sizes { AreElementSizes (length sizes.now) sizes.now }
     requires search { IsSearch T.places T.value_of T.size_of T.fits terms.now
         (length sizes.now) search.old }
     requires small { IsAtMost (10 ^ 21) p }
     ensures search { OnOk result (IsSearch T.places T.value_of T.size_of T.fits terms.now
         (length sizes.now) search.new) }
-    ensures least { IfOk result (IsLeast (meanings T.places T.value_of terms.now)
-        (length sizes.now) (pos 64) (sized_shift sizes.now p)) }
+    ensures least { IfOk result (λ r. IsLeast (meanings T.places T.value_of terms.now)
+        (length sizes.now) (pos 64) (sized_shift sizes.now p) r.set) }
+    ensures worth { IfOk result (IsWorth (meanings T.places T.value_of terms.now) sizes.now) }
 {
     let alloc = search.alloc;
     keep_small(alloc, &mut search.warm, terms, sizes.len())?;
     set_shift(&mut search.shift, sizes, p);
     let least = least_by(alloc, &mut search.warm, terms, GRAIN, &search.shift)?;
-    Ok(least)
+    Ok(worth_by(least, sizes, p, GRAIN))
 }
 
 // The least minimiser at a slope, where the walks begin at a multiple of the warm bases.
@@ -101,7 +107,7 @@ fn least_at<T: Term>(
     terms: &[T],
     sizes: &[i128],
     slope: Slope,
-) -> Result<Set, Memory>
+) -> Result<Worth, Memory>
     requires sizes { AreElementSizes (length sizes.now) sizes.now }
     requires search { IsSearch T.places T.value_of T.size_of T.fits terms.now
         (length sizes.now) search.old }
@@ -109,8 +115,9 @@ fn least_at<T: Term>(
     requires few { slope.den ≤ℤ pos 15625 }
     ensures search { OnOk result (IsSearch T.places T.value_of T.size_of T.fits terms.now
         (length sizes.now) search.new) }
-    ensures least { IfOk result (IsLeast (meanings T.places T.value_of terms.now)
-        (length sizes.now) slope.den (sized_shift sizes.now slope.num)) }
+    ensures least { IfOk result (λ r. IsLeast (meanings T.places T.value_of terms.now)
+        (length sizes.now) slope.den (sized_shift sizes.now slope.num) r.set) }
+    ensures worth { IfOk result (IsWorth (meanings T.places T.value_of terms.now) sizes.now) }
 {
     let alloc = search.alloc;
     let p = grains(slope.num);
@@ -123,7 +130,7 @@ fn least_at<T: Term>(
     restart_times(alloc, &mut search.cold, terms, slope.den, bases, &warm)?;
     set_shift(&mut search.shift, sizes, p);
     let least = least_by(alloc, &mut search.cold, terms, q, &search.shift)?;
-    Ok(least)
+    Ok(worth_by(least, sizes, p, q))
 }
 
 // The least minimiser at a slope, where the walks begin at the first bases.
@@ -132,15 +139,16 @@ fn least_from_first<T: Term>(
     terms: &[T],
     sizes: &[i128],
     slope: Slope,
-) -> Result<Set, Memory>
+) -> Result<Worth, Memory>
     requires sizes { AreElementSizes (length sizes.now) sizes.now }
     requires search { IsSearch T.places T.value_of T.size_of T.fits terms.now
         (length sizes.now) search.old }
     requires small { IsAtMost (10 ^ 19) slope.num }
     ensures search { OnOk result (IsSearch T.places T.value_of T.size_of T.fits terms.now
         (length sizes.now) search.new) }
-    ensures least { IfOk result (IsLeast (meanings T.places T.value_of terms.now)
-        (length sizes.now) slope.den (sized_shift sizes.now slope.num)) }
+    ensures least { IfOk result (λ r. IsLeast (meanings T.places T.value_of terms.now)
+        (length sizes.now) slope.den (sized_shift sizes.now slope.num) r.set) }
+    ensures worth { IfOk result (IsWorth (meanings T.places T.value_of terms.now) sizes.now) }
 {
     let alloc = search.alloc;
     let bases = first_rows(alloc, terms, slope.den)?;
@@ -154,7 +162,7 @@ fn least_from_first<T: Term>(
     )?;
     set_shift(&mut search.shift, sizes, slope.num);
     let least = least_by(alloc, &mut search.cold, terms, slope.den, &search.shift)?;
-    Ok(least)
+    Ok(worth_by(least, sizes, slope.num, slope.den))
 }
 
 // Leaves a graph of 64 times the terms as it is where its entries are small, and else takes it to the first bases.
@@ -177,25 +185,28 @@ fn keep_small<T: Term>(
     Ok(())
 }
 
-// The least minimiser of q times the terms less the shift, from the bases of the graph.
+// The least minimiser of q times the terms less the shift, from the bases of the graph, with the least value.
 fn least_by<T: Term>(
     alloc: Global,
     graph: &mut Graph<T::Note>,
     terms: &[T],
     q: i128,
     shift: &[i128],
-) -> Result<Set, Memory>
+) -> Result<Attained, Memory>
     requires shifts { magnitudes shift.now ≤ℤ pos (10 ^ 27) }
     requires graph { IsClaimed T.places T.value_of T.size_of T.fits terms.now
         (length shift.now) q graph.old }
     requires small { All (λ x. All (IsAtMost (10 ^ 25)) x) graph.old.bases }
     ensures graph { OnOk result (IsClaimed T.places T.value_of T.size_of T.fits terms.now
         (length shift.now) q graph.new) }
-    ensures least { IfOk result (IsLeast (meanings T.places T.value_of terms.now)
-        (length shift.now) q shift.now) }
+    ensures least { IfOk result (λ r. IsLeast (meanings T.places T.value_of terms.now)
+        (length shift.now) q shift.now r.set) }
+    ensures value { IfOk result (λ r. r.value
+        ≡ shifted_at (meanings T.places T.value_of terms.now) q shift.now r.set) }
 {
     let mut steps = Steps::new();
     let z = improve(alloc, graph, terms, q, shift, &mut steps)?;
-    let least = least_minimiser(alloc, graph, terms, q, shift, &z)?;
-    Ok(least)
+    let set = least_minimiser(alloc, graph, terms, q, shift, &z)?;
+    let value = deficit_of(z.as_slice());
+    Ok(Attained { set, value })
 }

@@ -2,6 +2,7 @@
 // each with its greatest minimiser and with bases that prove there.
 #![tactic(auto)]
 
+mod attained;
 mod breakpoints;
 mod chain;
 mod least;

@@ -9,7 +9,7 @@ ghost use Rattle.sfm_slope.specs.Searches.{IsSearch};
 
 use crate::rows::first_rows;
 use sfm_base::Memory;
-use sfm_exchange::{Graph, copy_graph, graph_at, restart_by};
+use sfm_exchange::{Graph, copy_graph, graph_at, graph_by};
 use sfm_law::Term;
 use sfm_sizes::write_sized;
 use std::alloc::Global;
@@ -56,9 +56,8 @@ impl<N> Search<N> {
     {
         let shift = vec![in alloc; 0i128; n]?;
         let first = graph_at(alloc, terms, n, 1, first_rows(alloc, terms, 1)?)?;
-        let mut warm = copy_graph(alloc, &first, terms, n, 1)?;
         let bases = first_rows(alloc, terms, GRAIN)?;
-        restart_by(alloc, &mut warm, terms, GRAIN, bases, &first)?;
+        let warm = graph_by(alloc, terms, n, GRAIN, bases, &first)?;
         let cold = copy_graph(alloc, &first, terms, n, 1)?;
         Ok(Search {
             alloc,

@@ -10,7 +10,7 @@ ghost use Rattle.sfm_slope.specs.{Gaps.{IsBegun, IsGap}, Searches.{IsSearch}, Wo
 
 use crate::least::least_near;
 use crate::search::Search;
-use crate::worth::{Worth, worth_of};
+use crate::worth::Worth;
 use sfm_base::{Memory, Set, Slope};
 use sfm_law::Term;
 
@@ -54,14 +54,13 @@ pub fn take_turn<T: Term>(
 {
     let slope = slope_between(low, high);
     let least = least_near(search, terms, sizes, slope, low.size)?;
-    if least.size() == low.size {
+    if least.size == low.size {
         return Ok(Turn::Next(Breakpoint {
             slope,
             set: high.set.copy(search.alloc)?,
         }));
     }
-    let between = worth_of(search.alloc, terms, sizes, least)?;
-    Ok(Turn::Between(between))
+    Ok(Turn::Between(least))
 }
 
 /// The slope at which both sets are worth as much.

@@ -1,24 +1,16 @@
-use Rattle.std.proofs.Common.{◌≡◌, ◌^◌, length, ap, sym, ◌∙◌, FitsSigned, arith}
+use Rattle.std.proofs.Common.{◌≡◌, length, ap, ◌∙◌, FitsSigned, arith}
 use Rattle.std.proofs.lemmas.Int.{ints, to_z-of_z}
-use Rattle.std.proofs.lemmas.List.{length-map, with_items_is}
+use Rattle.std.proofs.lemmas.List.{length-map}
 use mir.Syntax.{w128}
-use Rattle.sfm_spec.specs.Families.{sized_shift}
+use Rattle.sfm_spec.specs.Families.{meanings, shifted_at, sized_shift, IsLeast}
 use Rattle.sfm_exchange.proofs.ClaimedGraphs.{shaped}
-use Rattle.sfm_sizes.proofs.Sized.{sized-small}
 use Rattle.sfm_slope.proofs.Scaled.{rows-entries}
+use Rattle.sfm_slope.proofs.Worthing.{attained_by, attained_worth}
 use Rattle.sfm_slope.proofs.least.least_from_first.Given as given
 use Rattle.sfm_slope.proofs.least.least_from_first.Goals as goal
-use Rattle.sfm_slope.proofs.least.least_from_first.Goals.{After-deref}
+use Rattle.sfm_slope.proofs.least.least_from_first.Goals.{After-deref, In_ok-least}
 
--- the shift that is read is the one that was written
-written : (g : given.Over) (c : After-deref g)
-    → c.deref.result.now ≡ sized_shift c.args.sizes.now c.args.slope.num
-written g c =
-    let s = c.args.slope in
-    let fp : FitsSigned w128 s.num = omega (arith, ints, s.entry.low, s.entry.high) in
-    c.deref.ensures.value ∙ (simp to_z-of_z at c.set_shift.ensures.shift)
-
--- so it has a number for each place
+-- the shift that is read has a number for each place
 long : (g : given.Over) (c : After-deref g) → length c.deref.result.now ≡ length c.args.sizes.now
 long g c = ap length c.deref.ensures.value ∙ c.set_shift.ensures.places
 
@@ -74,9 +66,60 @@ returns-clause-search g c =
       shift = c.set_shift.ensures.places;
     }
 
-pub returns-clause-least : goal.returns-clause-least
-returns-clause-least g c =
+-- it is the one that was written
+shifted : (g : given.Over) (c : In_ok-least g) → c.deref.result.now ≡ sized_shift c.args.sizes.now c.args.slope.num
+shifted g c =
+    let s = c.args.slope in
+    let fp : FitsSigned w128 s.num = omega (arith, ints, s.entry.low, s.entry.high) in
+    c.deref.ensures.value ∙ (simp to_z-of_z at c.set_shift.ensures.shift)
+
+-- the set is the least minimiser at the slope
+found : (g : given.Over) (c : In_ok-least g) → let t = g.T.Term in let s = c.args.slope in
+    IsLeast (meanings t.places t.value_of c.args.terms.now) (length c.args.sizes.now) s.den (sized_shift c.args.sizes.now s.num) c.in_ok-least.least.set
+found g c =
     let s = c.args.slope in
     let fq : FitsSigned w128 s.den = omega (arith, ints, s.factor.low, s.factor.high) in
-    let at = (goal.at.returns-clause-least g c).After-deref in
-    rw (written g at, length-map c.args.sizes.now _) at (simp to_z-of_z at c.in_ok-least.ensures.least)
+    rw (shifted g c, length-map c.args.sizes.now _) at (simp to_z-of_z at c.in_ok-least.ensures.least)
+
+-- and attains the least value there
+attains : (g : given.Over) (c : In_ok-least g) → let t = g.T.Term in let s = c.args.slope in
+    c.in_ok-least.least.value ≡ shifted_at (meanings t.places t.value_of c.args.terms.now) s.den (sized_shift c.args.sizes.now s.num) c.in_ok-least.least.set
+attains g c =
+    let s = c.args.slope in
+    let fq : FitsSigned w128 s.den = omega (arith, ints, s.factor.low, s.factor.high) in
+    rw (shifted g c) at (simp to_z-of_z at c.in_ok-least.ensures.value)
+
+pub worth_by-requires : goal.worth_by-requires
+worth_by-requires g c =
+    let t = g.T.Term in
+    let m = g.met.T.Term in
+    let s = c.args.slope in
+    let at = (goal.at.worth_by-requires g c).In_ok-least in
+    let least = c.in_ok-least.least in
+    let small = c.requires.small in
+    let fp : FitsSigned w128 s.num = omega (arith, ints, s.entry.low, s.entry.high) in
+    let fq : FitsSigned w128 s.den = omega (arith, ints, s.factor.low, s.factor.high) in
+    simp to_z-of_z (record {
+      sizes = rw (found g at).minimiser.places c.requires.sizes;
+      small = record { low = omega (arith, ints, small.low); high = omega (arith, ints, small.high) };
+      factor = s.factor;
+      value = attained_by t.places t.value_of t.size_of m.bounded (λ y. (m.submodular y).at_empty) c.args.terms.now
+          c.requires.search.first.bounded.small c.args.sizes.now s.num s.den least.value least.set (attains g at);
+    })
+
+pub returns-clause-least : goal.returns-clause-least
+returns-clause-least g c = rw c.worth_by.ensures.same (found g (goal.at.returns-clause-least g c).In_ok-least)
+
+pub returns-clause-worth : goal.returns-clause-worth
+returns-clause-worth g c =
+    let t = g.T.Term in
+    let m = g.met.T.Term in
+    let at = (goal.at.returns-clause-worth g c).In_ok-least in
+    let s = c.args.slope in
+    let least = c.in_ok-least.least in
+    let e = c.worth_by.ensures in
+    let fp : FitsSigned w128 s.num = omega (arith, ints, s.entry.low, s.entry.high) in
+    let fq : FitsSigned w128 s.den = omega (arith, ints, s.factor.low, s.factor.high) in
+    attained_worth t.places t.value_of t.size_of m.bounded (λ y. (m.submodular y).at_empty) c.args.terms.now
+    c.requires.search.first.bounded.small c.args.sizes.now s.num s.den least.value least.set (attains g at)
+    c.worth_by.result (found g at).minimiser.allowed e.same e.size e.weight (simp to_z-of_z at e.sum)

@@ -13,7 +13,7 @@ pub returns : goal.returns
 returns g c =
     record {
       first = whole_claimed (record { bounded = c.requires.bounded; factor = one; exact = c.in_ok-first.ensures.graph });
-      warm = rw c.in_ok-warm.ensures.are_spots.count at c.in_ok-restart_by.ensures.graph;
+      warm = c.in_ok-warm.ensures.graph;
       cold = shaped (whole_claimed (record { bounded = c.requires.bounded; factor = one; exact = c.in_ok-cold.ensures }));
       shift = search rules;
     }
@@ -21,22 +21,14 @@ returns g c =
 pub first_rows-requires-2-clause-sizes : goal.first_rows-requires-2-clause-sizes
 first_rows-requires-2-clause-sizes g c = c.requires.bounded.small
 
-pub restart_by-requires-clause-bounded : goal.restart_by-requires-clause-bounded
-restart_by-requires-clause-bounded g c = rw c.in_ok-warm.ensures.are_spots.count c.requires.bounded
+pub graph_by-requires-clause-other : goal.graph_by-requires-clause-other
+graph_by-requires-clause-other g c = whole_claimed (record { bounded = c.requires.bounded; factor = one; exact = c.in_ok-first.ensures.graph })
 
-pub restart_by-requires-clause-graph : goal.restart_by-requires-clause-graph
-restart_by-requires-clause-graph g c =
-    rw c.in_ok-warm.ensures.are_spots.count (shaped (whole_claimed (record { bounded = c.requires.bounded; factor = one; exact = c.in_ok-warm.ensures })))
+pub graph_by-requires-clause-bases : goal.graph_by-requires-clause-bases
+graph_by-requires-clause-bases g c = c.in_ok-bases.ensures.bases
 
-pub restart_by-requires-clause-other : goal.restart_by-requires-clause-other
-restart_by-requires-clause-other g c =
-    rw c.in_ok-warm.ensures.are_spots.count (whole_claimed (record { bounded = c.requires.bounded; factor = one; exact = c.in_ok-first.ensures.graph }))
-
-pub restart_by-requires-clause-bases : goal.restart_by-requires-clause-bases
-restart_by-requires-clause-bases g c = c.in_ok-bases.ensures.bases
-
-pub restart_by-requires-clause-small : goal.restart_by-requires-clause-small
-restart_by-requires-clause-small g c = rows-entries c.in_ok-bases.bases c.in_ok-bases.ensures.small
+pub graph_by-requires-clause-small : goal.graph_by-requires-clause-small
+graph_by-requires-clause-small g c = rows-entries c.in_ok-bases.bases c.in_ok-bases.ensures.small
 
 pub first_rows-requires-clause-sizes : goal.first_rows-requires-clause-sizes
 first_rows-requires-clause-sizes g c = c.requires.bounded.small
@@ -61,12 +53,3 @@ copy_graph-requires-clause-graph g c = c.in_ok-first.ensures.graph
 
 pub copy_graph-requires-clause-small : goal.copy_graph-requires-clause-small
 copy_graph-requires-clause-small g c = rw c.in_ok-first.ensures.bases (rows-entries c.in_ok-first_rows.field-0 c.in_ok-first_rows.ensures.small)
-
-pub copy_graph-requires-2-clause-factor : goal.copy_graph-requires-2-clause-factor
-copy_graph-requires-2-clause-factor g c = one
-
-pub copy_graph-requires-2-clause-graph : goal.copy_graph-requires-2-clause-graph
-copy_graph-requires-2-clause-graph g c = c.in_ok-first.ensures.graph
-
-pub copy_graph-requires-2-clause-small : goal.copy_graph-requires-2-clause-small
-copy_graph-requires-2-clause-small g c = rw c.in_ok-first.ensures.bases (rows-entries c.in_ok-first_rows.field-0 c.in_ok-first_rows.ensures.small)
