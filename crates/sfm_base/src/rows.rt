@@ -1,7 +1,7 @@
 // Rows of numbers, one for each term: a list that grows at its end, and whose numbers can be exchanged. All numbers lie in
 // one list, one row behind the other, and another one tells where each row ends: so rows take no memory each, and are copied
 // at once.
-ghost use Rattle.std.specs.{Prelude.{◌≡◌, ◌≢◌, ◌<◌, ◌≤◌, ◌-◌, ◌*◌, ◌^◌, ℤ, true, pos, ◌*ℤ◌, length, map, take, drop, slice_index_or, slice_set, is_ok, IfOk, [], ◌∷◌, ◌++◌, ◌==◌, if◌then◌else◌}, List.{All}};
+ghost use Rattle.std.specs.{Prelude.{◌≡◌, ◌≢◌, ◌<◌, ◌≤◌, ◌-◌, ◌*◌, ◌^◌, ℤ, pos, ◌*ℤ◌, length, map, take, drop, slice_index_or, slice_set, is_ok, IfOk, [], ◌∷◌, ◌++◌, ◌==◌, if◌then◌else◌}, List.{All}};
 ghost use Rattle.sfm_spec.specs.{Bounds.{IsAtMost, IsFactor}, Terms.{exchanged}};
 
 use crate::Memory;
@@ -138,42 +138,6 @@ impl Rows {
         let ends = Vec::from_slice(alloc, &self.ends)?;
         Ok(Rows { numbers, ends })
     }
-
-    /// Whether other rows are a number of times these, where no number of these is too large to tell.
-    pub fn are_times(&self, q: i128, others: &Rows) -> bool
-        requires { IsFactor q }
-        ensures { result ≡ true → others.now ≡ map (λ x. map (λ a. q *ℤ a) x) self.now }
-    {
-        self.ends.as_slice() == others.ends.as_slice()
-            && are_multiples(q, &self.numbers, &others.numbers)
-    }
-}
-
-// Whether each of some numbers is q times the one in its place, where none of these is too large to tell.
-fn are_multiples(q: i128, x: &[i128], y: &[i128]) -> bool
-    requires { IsFactor q }
-    ensures { result ≡ true → y.now ≡ map (λ a. q *ℤ a) x.now }
-{
-    if x.len() != y.len() {
-        return false;
-    }
-    for (j, a) in x.iter().enumerate() {
-        if !is_multiple(q, *a, y[j]) {
-            return false;
-        }
-    }
-    true
-}
-
-// Whether b is q times a, where a is not too large to tell.
-fn is_multiple(q: i128, a: i128, b: i128) -> bool
-    requires { IsFactor q }
-    ensures { result ≡ true → b ≡ q *ℤ a }
-{
-    if a.unsigned_abs() > 1_000_000_000_000_000_000_000 {
-        return false;
-    }
-    q * a == b
 }
 
 // Where row i begins.

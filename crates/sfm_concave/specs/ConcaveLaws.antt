@@ -10,6 +10,7 @@ use Rattle.sfm_law.proofs.Greedy.{greedy_base, greedy_small}
 use Rattle.sfm_law.proofs.Entries.{greatest-low, listed-small}
 pub use Rattle.sfm_law.specs.Values.{greatest}
 use Rattle.sfm_concave.specs.Counts.{IsFalling, counted, counted-family, counted-submodular, counted-greedy}
+use Rattle.sfm_law.proofs.Multiples.{map-times, times-once}
 
 -- the number of a count: 0 of none, and then the listed ones
 abbrev pub number_of : List ℤ → ℕ → ℤ
@@ -91,3 +92,6 @@ concave-starts k q g low same never =
 
 pub concave-starts_small : (k : ℕ) (q : ℤ) (g : List ℤ) → pos 1 ≤ℤ q → All (λ a. (neg_ℤ ((pos 2 *ℤ q) *ℤ greatest g) ≤ℤ a) × (a ≤ℤ ((pos 2 *ℤ q) *ℤ greatest g))) (concave_start q g k)
 concave-starts_small k q g low = greedy_small k q (greatest g) (counted (number_of g)) (concave_start q g k) (omega (arith, ints)) (λ s ks. number-small g (size s)) (concave-greedy k q g)
+
+pub concave-starts_times : (k : ℕ) (q : ℤ) (g : List ℤ) → concave_start q g k ≡ map (λ a. q *ℤ a) (concave_start (pos 1) g k)
+concave-starts_times k q g = map-times q (λ j. gain_of q g j) (λ j. gain_of (pos 1) g j) (λ j. times-once q _) (range_with_len 0 k)

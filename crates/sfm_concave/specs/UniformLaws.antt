@@ -1,6 +1,6 @@
 -- A number w times the count of a part, up to a cap: the weighted rank of a uniform matroid.
 -- Textbook: Schrijver, Combinatorial Optimization, sections 39 and 44.
-use Rattle.std.proofs.Common.{◌≡◌, ℕ, suc, ◌≤◌, List, length, map, get_or, ℤ, pos, neg_ℤ, ◌+ℤ◌, ◌-ℤ◌, ◌*ℤ◌, ◌≤ℤ◌, Bool, true, false, Some, refl, ap, ◌∙◌, arith, if◌then◌else◌, ⊎_elim}
+use Rattle.std.proofs.Common.{◌≡◌, ℕ, suc, ◌≤◌, List, length, map, get_or, ℤ, pos, neg_ℤ, ◌+ℤ◌, ◌-ℤ◌, ◌*ℤ◌, ◌≤ℤ◌, Bool, true, false, Some, refl, ap, ◌∙◌, arith, if◌then◌else◌, ⊎_elim, sym}
 use Rattle.std.specs.List.{All, range_with_len}
 use Rattle.std.specs.Int.{int_min}
 use Rattle.std.specs.Int.Signed.{lt_z}
@@ -15,6 +15,7 @@ use Rattle.sfm_spec.proofs.Scaled.{times-mono, times-add}
 use Rattle.sfm_spec.proofs.Sizes.{size_below_length}
 use Rattle.sfm_law.proofs.Greedy.{greedy_base, greedy_small}
 use Rattle.sfm_concave.specs.Counts.{IsFalling, falling-times, counted, counted-family, counted-submodular, counted-greedy}
+use Rattle.sfm_law.proofs.Multiples.{map-times, times-once}
 
 -- how many of a count are independent together
 abbrev pub rank_of : ℤ → ℕ → ℤ
@@ -95,3 +96,9 @@ pub uniform-starts_small : (k : ℕ) (q w cap : ℤ) → pos 1 ≤ℤ q → pos 
 uniform-starts_small k q w cap low hw hc =
     greedy_small k q (uniform_size w cap k) (counted (λ c. w *ℤ rank_of cap c)) (uniform_start q w cap k) (omega (arith, ints))
     (λ s ks. let few = size_below_length s in uniform-small k w cap (size s) hw hc (omega (arith, few, ks))) (uniform-greedy k q w cap hc)
+
+pub uniform-starts_times : (k : ℕ) (q w cap : ℤ) → uniform_start q w cap k ≡ map (λ a. q *ℤ a) (uniform_start (pos 1) w cap k)
+uniform-starts_times k q w cap = map-times q (λ j. uniform_gain q w cap j) (λ j. uniform_gain (pos 1) w cap j) (λ j. at (lt_z (pos j) cap)) (range_with_len 0 k) where
+  at : (b : Bool) → (if b then q *ℤ w else pos 0) ≡ (q *ℤ (if b then pos 1 *ℤ w else pos 0))
+  at true = times-once q w
+  at false = sym (*ℤ-zero q)

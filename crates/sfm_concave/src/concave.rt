@@ -5,7 +5,7 @@
 ghost use Rattle.std.specs.{Prelude.{◌≡◌, ◌≢◌, ◌↔◌, ℕ, ◌+◌, ◌-◌, ◌<◌, ◌≤◌, ◌^◌, Bool, true, false, List, length, slice_index_or, slice_set, ℤ, pos, neg_ℤ, ◌*ℤ◌, ◌+ℤ◌, ◌-ℤ◌, ◌≤ℤ◌, ◌<ℤ◌, IfOk, IfSome, MatchOption, OnOk, IsTrue, Option, Some, Ok, Err}, Int.{int_min}, List.{All}};
 ghost use Rattle.sfm_spec.specs.{Bounds.{IsAtMost, IsEntry, IsFactor, IsGiven, AreElements}, Sets.{Has, whole_set}, Terms.{SetFunction, times, IsBase, IsFamily, IsSubmodular, IsGreedy, exchanged}, Kinds.{concave_value}};
 ghost use Rattle.sfm_law.specs.{Based.{IsPair}, Room.{IsRoom, IsReach}, Values.{greatest}};
-ghost use Rattle.sfm_concave.specs.{Rankings.{IsRanking}, Thresholds.{above, slack, IsShareOf, IsSomeShare, slack_from, IsLeastSlack, IsBar, IsLastTight, NoneTight, LeavesAbove}, ConcaveLaws.{number_of, scaled, IsFirstRise, NeverRises, gain_of, concave_start, concave-family, concave-submodular, concave-bounded, concave-starts, concave-starts_small}};
+ghost use Rattle.sfm_concave.specs.{Rankings.{IsRanking}, Thresholds.{above, slack, IsShareOf, IsSomeShare, slack_from, IsLeastSlack, IsBar, IsLastTight, NoneTight, LeavesAbove}, ConcaveLaws.{number_of, scaled, IsFirstRise, NeverRises, gain_of, concave_start, concave-family, concave-submodular, concave-bounded, concave-starts, concave-starts_small, concave-starts_times}};
 
 use crate::ranking::{FEW, Ranking, RankingArrays, RankingView, count_upto, count_upto_place};
 use crate::rise::first_rise;
@@ -487,6 +487,8 @@ impl Term for Concave {
     ghost starts = { λ s q low. concave-starts _ q s.values low s.counted s.falling };
 
     ghost starts_small = { λ s q low. concave-starts_small _ q s.values low };
+
+    ghost starts_times = { λ s q. concave-starts_times (length s.places) q s.values };
 
     fn elements(&self) -> &[usize] {
         self.places.as_slice()

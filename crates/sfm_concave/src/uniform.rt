@@ -4,7 +4,7 @@
 ghost use Rattle.std.specs.{Prelude.{◌≡◌, ◌≢◌, ◌↔◌, ℕ, ◌<◌, ◌≤◌, ◌^◌, length, ℤ, pos, ◌*ℤ◌, ◌≤ℤ◌, IfOk, IsTrue, Option, Some}, List.{All}};
 ghost use Rattle.sfm_spec.specs.{Bounds.{IsAtMost, IsEntry, IsFactor, IsGiven, AreElements, total_of}, Sets.{Has}, Terms.{times, IsGreedy}, Kinds.{uniform_value}};
 ghost use Rattle.sfm_layers.specs.Kept.{kept};
-ghost use Rattle.sfm_concave.specs.UniformLaws.{rank_of, IsUniformRoom, uniform_size, uniform_gain, uniform_start, uniform-family, uniform-submodular, uniform-bounded, uniform-starts, uniform-starts_small};
+ghost use Rattle.sfm_concave.specs.UniformLaws.{rank_of, IsUniformRoom, uniform_size, uniform_gain, uniform_start, uniform-family, uniform-submodular, uniform-bounded, uniform-starts, uniform-starts_small, uniform-starts_times};
 
 use sfm_base::{Memory, Places, Set};
 use sfm_law::{Plain, Room, are_within, has_sum, least_left, product, put_others_over, write_each};
@@ -143,6 +143,8 @@ impl Plain for Uniform {
     ghost starts = { λ s q low. uniform-starts _ q s.w s.cap low s.low s.cap_low };
 
     ghost starts_small = { λ s q low. uniform-starts_small _ q s.w s.cap low s.low s.cap_low };
+
+    ghost starts_times = { λ s q. uniform-starts_times (length s.places) q s.w s.cap };
 
     fn elements_of(&self) -> &[usize] {
         self.places.as_slice()

@@ -1,22 +1,22 @@
 -- Multiples of bases: the same sets are tight, so the same places depend on each other, and the rows of all terms stay.
-use Rattle.std.proofs.Common.{◌≡◌, ◌≢◌, ◌↔◌, ⊎_elim, inr, ℕ, ◌<◌, Bool, true, false, List, [], ◌∷◌, length, Some, ℤ, pos, ◌+ℤ◌, ◌*ℤ◌, ◌≤ℤ◌, refl, sym, ap, ◌∙◌, arith}
+use Rattle.std.proofs.Common.{◌≡◌, ◌≢◌, ◌↔◌, ⊎_elim, inr, ℕ, ◌<◌, Bool, true, false, List, [], ◌∷◌, length, Some, ℤ, pos, ◌+ℤ◌, ◌*ℤ◌, ◌≤ℤ◌, refl, sym, ap, ◌∙◌, arith, map}
 use Rattle.std.proofs.Math.IntN.{*ℤ-zero}
 use Rattle.std.proofs.lemmas.Int.{ints}
 use Rattle.std.proofs.lemmas.List.{length-map}
 use Rattle.std.specs.Option.{option_map}
-use Rattle.sfm_spec.specs.Sets.{Has, sum_over}
+use Rattle.sfm_spec.specs.Sets.{Has, sum_over, whole_set}
 use Rattle.sfm_spec.specs.Rows.{Depends}
 use Rattle.sfm_spec.specs.Terms.{SetFunction, times, IsFamily, IsSubmodular, IsBase, IsTight, IsTightSet, HasRoom}
 use Rattle.sfm_spec.specs.Families.{Meaning, AreTerms, AreBases}
 use Rattle.sfm_spec.specs.Walks.{term_at, base_at}
 use Rattle.sfm_spec.proofs.RowLaw.{least_tight}
-use Rattle.sfm_spec.proofs.Scaled.{times_some, times-add, times-assoc, times-cancel, family-times, submodular-times}
+use Rattle.sfm_spec.proofs.Scaled.{times_some, times-add, times-assoc, times-cancel, family-times, submodular-times, times-mono}
 use Rattle.sfm_spec.proofs.Walks.{terms-at, bases-at}
 use Rattle.sfm_reach.specs.declared.bits.Bits.{Bits}
 use Rattle.sfm_reach.specs.declared.spots.Spot.{Spot}
 use Rattle.sfm_reach.specs.Bits.{set_at}
 use Rattle.sfm_exchange.specs.Claimed.{AreClaims}
-use Rattle.sfm_exchange.specs.Scaled.{row_times}
+use Rattle.sfm_exchange.specs.Scaled.{row_times, rows_times}
 use Rattle.sfm_reach.specs.Reach.{IsRow, table_at}
 use Rattle.sfm_reach.specs.Spots.{AreSpots, spots_at, spot_at}
 use Rattle.sfm_reach.specs.Unions.{AreUnions, IsUnion}
@@ -45,6 +45,30 @@ module _ (f : SetFunction) (p q : ℤ) (low : pos 1 ≤ℤ q) (x : List ℤ) whe
       let most : (p *ℤ a) ≤ℤ sum_over r x = times-cancel q (p *ℤ a) (sum_over r x) low (omega (arith, ints, same)) in
       let is : (p *ℤ a) ≡ sum_over r x = omega (arith, ints, least, most) in
       ap (option_map (λ z. p *ℤ z)) fr ∙ ap Some is
+
+-- q times a base of r times a term is a base of q·r times the term
+pub base-times : (q r : ℤ) (f : SetFunction) (x : List ℤ) → pos 1 ≤ℤ q → IsBase (times r f) x → IsBase (times (q *ℤ r) f) (row_times q x)
+base-times q r f x lq h = record { within = within; total = total } where
+  within : (s : List Bool) (c : ℤ) → length s ≡ length (row_times q x) → times (q *ℤ r) f s ≡ Some c → sum_over s (row_times q x) ≤ℤ c
+  within s c len is =
+      let (a, fs, ec) = times_some (q *ℤ r) (f s) c is in
+      let le : sum_over s x ≤ℤ (r *ℤ a) = h.within s (r *ℤ a) (len ∙ length-map x (λ a. q *ℤ a)) (ap (option_map (λ z. r *ℤ z)) fs) in
+      rw (sum_over-times q s x, ec, times-assoc q r a) (times-mono q (sum_over s x) (r *ℤ a) (omega (arith, ints, lq)) le)
+
+  total : times (q *ℤ r) f (whole_set (length (row_times q x))) ≡ Some (sum_over (whole_set (length (row_times q x))) (row_times q x))
+  total =
+      let w = whole_set (length x) in
+      let (a, fw, e) = times_some r (f w) (sum_over w x) h.total in
+      let same : ((q *ℤ r) *ℤ a) ≡ (q *ℤ sum_over w x) = times-assoc q r a ∙ ap (λ z. q *ℤ z) (sym e) in
+      let at : times (q *ℤ r) f w ≡ Some (sum_over w (row_times q x)) = ap (option_map (λ z. (q *ℤ r) *ℤ z)) fw ∙ ap Some same ∙ ap Some (sym (sum_over-times q w x)) in
+      rw length-map at
+
+-- one for each term
+pub bases-times : (q r : ℤ) (terms : List Meaning) (rows : List (List ℤ)) → pos 1 ≤ℤ q → AreBases r terms rows → AreBases (q *ℤ r) terms (map (row_times q) rows)
+bases-times q r [] [] lq h = tt
+bases-times q r [] (x ∷ rows) lq h = absurd h
+bases-times q r (t ∷ terms) [] lq h = absurd h
+bases-times q r (t ∷ terms) (x ∷ rows) lq h = (length-map x (λ a. q *ℤ a) ∙ h.0, base-times q r t.value x lq h.1, bases-times q r terms rows lq h.2)
 
 module _ {k : ℕ} {f : SetFunction} (family : IsFamily k f) (law : IsSubmodular k f) (p q : ℤ) (some : pos 1 ≤ℤ p) (low : pos 1 ≤ℤ q) (many : pos 1 ≤ℤ (q *ℤ p)) (x : List ℤ) (sized : length x ≡ k) (base : IsBase (times p f) x)
     (after : IsBase (times (q *ℤ p) f) (row_times q x)) where
@@ -117,3 +141,10 @@ unions_same {terms} {n} {spots} {others} {tables} {unions} one two h = record { 
 
     lo : e < length others
     lo = rw two.count ln
+
+-- q times the first bases of terms are those at the factor q
+pub starts_times : {X : Type 0} (start : X → ℤ → List ℤ) → ((x : X) (q : ℤ) → start x q ≡ row_times q (start x (pos 1))) → (q : ℤ) (xs : List X)
+    → rows_times q (map (λ x. start x (pos 1)) xs) ≡ map (λ x. start x q) xs
+starts_times start law q [] = refl
+starts_times start law q (x ∷ xs) =
+    ap (λ r. r ∷ rows_times q (map (λ x. start x (pos 1)) xs)) (sym (law x q)) ∙ ap (λ r. start x q ∷ r) (starts_times start law q xs)

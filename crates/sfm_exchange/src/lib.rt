@@ -18,7 +18,7 @@ pub use claims::{prove_walk, walked_from};
 pub use graph::{Graph, graph_at, restart};
 pub use levels::find_levels;
 pub use moving::{amount_of, move_along};
-pub use multiples::{Beside, copy_graph, graph_by, restart_by, restart_times};
+pub use multiples::{Beside, graph_by, restart_by, restart_times};
 pub use path::{Hop, Path, Stuck, descend, follow, local_of, steps_along};
 pub use renewing::renew_rows;
 pub use sfm_reach::{Bits, no_bits, reached_from, set_of};

@@ -1,13 +1,13 @@
 // A graph at a multiple of the bases of another one. What depends on what at a base hangs on its tight sets alone, and the
 // sets that are tight at q times a base of a term, for q times the term, are those that are tight at the base. So all rows are
 // the same, those that are only claimed as well: they are copied into the memory that stands, and no term is asked.
-ghost use Rattle.std.specs.{Prelude.{◌≡◌, ◌<◌, ◌^◌, ℕ, ℤ, List, true, length, map, pos, ◌*ℤ◌, OnOk, IfOk}, List.{All}};
-ghost use Rattle.sfm_spec.specs.{Bounds.{AreBounded, IsEntry, IsFactor}, Families.{meanings, AreBases}, Walks.{base_at}};
-ghost use Rattle.sfm_exchange.specs.Graph.{IsClaimed, IsGraph, IsShaped};
+ghost use Rattle.std.specs.{Prelude.{◌≡◌, ◌<◌, ◌^◌, ℕ, ℤ, List, length, map, pos, ◌*ℤ◌, OnOk, IfOk}, List.{All}};
+ghost use Rattle.sfm_spec.specs.{Bounds.{IsAtMost, IsFactor}, Families.{meanings}, Walks.{base_at}};
+ghost use Rattle.sfm_exchange.specs.{Graph.{IsClaimed, IsShaped}, Scaled.{rows_times}};
 ghost use Rattle.sfm_reach.specs.{Reach.{AreNotes, AreSized, kept_fits}};
 
-use crate::graph::{Graph, blank_graph, restart};
-use sfm_base::{Memory, Rows};
+use crate::graph::{Graph, blank_graph};
+use sfm_base::Memory;
 use sfm_law::Term;
 use sfm_reach::{BitRows, no_notes};
 use std::alloc::Global;
@@ -58,9 +58,9 @@ pub struct Beside<'a, N> {
     pub q: i128,
 }
 
-/// Makes the graph one of m times q times the terms at other bases of theirs, as `restart` does. Where these are m times the bases
-/// of a second graph, one of q times the terms, no term is asked: what that graph keeps is copied. After want of memory nothing is
-/// said of the graph.
+/// Makes the graph one of m times q times the terms, at m times the bases of a second graph, which is one of q times the terms and
+/// has entries of at most 10^21. No term is asked: what that graph keeps is copied, and rows that are only claimed there are so
+/// here. After want of memory nothing is said of the graph.
 ///
 /// # Errors
 ///
@@ -70,29 +70,20 @@ pub fn restart_times<T: Term>(
     graph: &mut Graph<T::Note>,
     terms: &[T],
     m: i128,
-    bases: Rows,
     other: &Beside<'_, T::Note>,
 ) -> Result<(), Memory>
-    requires bounded { AreBounded (length graph.old.spots.items) (map T.places terms.now)
-        (map T.size_of terms.now) }
     requires times { IsFactor m }
     requires factor { IsFactor (m *ℤ other.now.q) }
     requires graph { IsShaped T.places T.value_of terms.now
         (length graph.old.spots.items) graph.old }
     requires other { IsClaimed T.places T.value_of T.size_of T.fits terms.now
         (length graph.old.spots.items) other.now.q other.now.graph.now }
-    requires bases { AreBases (m *ℤ other.now.q) (meanings T.places T.value_of terms.now) bases }
-    requires small { All (λ x. All IsEntry x) bases }
+    requires small { All (λ x. All (IsAtMost (10 ^ 21)) x) other.now.graph.now.bases }
     ensures graph { OnOk result (IsClaimed T.places T.value_of T.size_of T.fits terms.now
         (length graph.old.spots.items) (m *ℤ other.now.q) graph.new) }
-    ensures bases { OnOk result (graph.new.bases ≡ bases) }
+    ensures bases { OnOk result (graph.new.bases ≡ rows_times m other.now.graph.now.bases) }
 {
-    if !other.graph.bases.are_times(m, &bases) {
-        let n = graph.spots.len();
-        restart(alloc, graph, terms, n, m * other.q, bases)?;
-        return Ok(());
-    }
-    graph.bases = bases;
+    graph.bases = other.graph.bases.times(alloc, m)?;
     take_rows(alloc, graph, terms, other.graph)?;
     Ok(())
 }
@@ -107,29 +98,24 @@ pub fn restart_by<T: Term>(
     graph: &mut Graph<T::Note>,
     terms: &[T],
     q: i128,
-    bases: Rows,
     other: &Graph<T::Note>,
 ) -> Result<(), Memory>
-    requires bounded { AreBounded (length graph.old.spots.items) (map T.places terms.now)
-        (map T.size_of terms.now) }
     requires factor { IsFactor q }
     requires graph { IsShaped T.places T.value_of terms.now
         (length graph.old.spots.items) graph.old }
     requires other { IsClaimed T.places T.value_of T.size_of T.fits terms.now
         (length graph.old.spots.items) (pos 1) other.now }
-    requires bases { AreBases q (meanings T.places T.value_of terms.now) bases }
-    requires small { All (λ x. All IsEntry x) bases }
+    requires small { All (λ x. All (IsAtMost (10 ^ 21)) x) other.now.bases }
     ensures graph { OnOk result (IsClaimed T.places T.value_of T.size_of T.fits terms.now
         (length graph.old.spots.items) q graph.new) }
-    ensures bases { OnOk result (graph.new.bases ≡ bases) }
+    ensures bases { OnOk result (graph.new.bases ≡ rows_times q other.now.bases) }
 {
     let beside = Beside { graph: other, q: 1 };
-    restart_times(alloc, graph, terms, q, bases, &beside)
+    restart_times(alloc, graph, terms, q, &beside)
 }
 
-/// The exchange graph of q times the terms at bases of theirs over a ground of n places, as `graph_at` makes it. Where these
-/// are q times the bases of another graph, one of the terms themselves, no term is asked for its rows: what that graph keeps
-/// is copied, and rows that are only claimed there are so here.
+/// A graph of q times the terms, at q times the bases of another graph, which is one of the terms themselves, over a ground of n
+/// places, as `restart_by` makes one.
 ///
 /// # Errors
 ///
@@ -139,41 +125,15 @@ pub fn graph_by<T: Term>(
     terms: &[T],
     n: usize,
     q: i128,
-    bases: Rows,
     other: &Graph<T::Note>,
 ) -> Result<Graph<T::Note>, Memory>
     requires factor { IsFactor q }
     requires other { IsClaimed T.places T.value_of T.size_of T.fits terms.now n (pos 1) other.now }
-    requires bases { AreBases q (meanings T.places T.value_of terms.now) bases }
-    requires small { All (λ x. All IsEntry x) bases }
+    requires small { All (λ x. All (IsAtMost (10 ^ 21)) x) other.now.bases }
     ensures graph { IfOk result (IsClaimed T.places T.value_of T.size_of T.fits terms.now n q) }
-    ensures bases { IfOk result (λ r. r.bases ≡ bases) }
+    ensures bases { IfOk result (λ r. r.bases ≡ rows_times q other.now.bases) }
 {
     let mut graph = blank_graph(alloc, terms, n)?;
-    restart_by(alloc, &mut graph, terms, q, bases, other)?;
+    restart_by(alloc, &mut graph, terms, q, other)?;
     Ok(graph)
-}
-
-/// The same graph once more.
-///
-/// # Errors
-///
-/// `Memory` where there is none.
-pub fn copy_graph<T: Term>(
-    alloc: Global,
-    graph: &Graph<T::Note>,
-    terms: &[T],
-    n: usize,
-    q: i128,
-) -> Result<Graph<T::Note>, Memory>
-    requires bounded { AreBounded n (map T.places terms.now) (map T.size_of terms.now) }
-    requires factor { IsFactor q }
-    requires graph { IsGraph T.places T.value_of T.fits terms.now n q graph.now }
-    requires small { All (λ x. All IsEntry x) graph.now.bases }
-    ensures { IfOk result (IsGraph T.places T.value_of T.fits terms.now n q) }
-{
-    let mut copied = blank_graph(alloc, terms, n)?;
-    copied.bases = graph.bases.copy(alloc)?;
-    take_rows(alloc, &mut copied, terms, graph)?;
-    Ok(copied)
 }

@@ -3,12 +3,14 @@ use Rattle.std.specs.Prelude.{◌≡◌, Bool, List, length, ℤ, pos, neg_ℤ, 
 use Rattle.std.specs.List.{All}
 use Rattle.sfm_spec.specs.Terms.{SetFunction, times, IsFamily, IsSubmodular, IsBase}
 use Rattle.sfm_kind.specs.Meanings.{kind_places}
-use Rattle.sfm_kind.specs.Kinds.{kind_value, kind_size, kind_start, kind-family, kind-submodular, kind-bounded, kind-starts, kind-starts_small}
+use Rattle.sfm_kind.specs.Kinds.{kind_value, kind_size, kind_start, kind-family, kind-submodular, kind-bounded, kind-starts, kind-starts_small, kind-starts_times}
 use Rattle.sfm_kind.specs.declared.kind.Kind.{Kind}
 use Rattle.sfm_flip.specs.Flipped.{flipped, negated}
 use Rattle.sfm_flip.specs.FlipLaws.{flipped-family, flipped-submodular, flipped-bounded, flipped-starts, flipped-starts_small}
 use Rattle.sfm_flip.specs.Known.{IsNoted}
 use Rattle.sfm_flip.specs.declared.note.FlipNote.{FlipNote}
+use Rattle.sfm_spec.proofs.Scaled.{times-neg}
+use Rattle.std.proofs.Common.{map, List, [], ◌∷◌, ap, sym, refl, ◌∙◌, neg_ℤ}
 
 -- the values of the term turned round
 abbrev pub flip_value : Kind → SetFunction
@@ -43,3 +45,9 @@ flip-starts kind q low = flipped-starts (length (kind_places kind)) (kind_value 
 pub flip-starts_small : (kind : Kind) (q : ℤ) → pos 1 ≤ℤ q
     → All (λ a. (neg_ℤ ((pos 2 *ℤ q) *ℤ flip_size kind) ≤ℤ a) × (a ≤ℤ ((pos 2 *ℤ q) *ℤ flip_size kind))) (flip_start kind q)
 flip-starts_small kind q low = flipped-starts_small (kind_size kind) q (kind_start kind q) (kind-starts_small kind q low)
+
+pub flip-starts_times : (kind : Kind) (q : ℤ) → flip_start kind q ≡ map (λ a. q *ℤ a) (flip_start kind (pos 1))
+flip-starts_times kind q = ap negated (kind-starts_times kind q) ∙ at (kind_start kind (pos 1)) where
+  at : (x : List ℤ) → negated (map (λ a. q *ℤ a) x) ≡ map (λ a. q *ℤ a) (negated x)
+  at [] = refl
+  at (a ∷ x) = ap (λ b. b ∷ negated (map (λ a. q *ℤ a) x)) (sym (times-neg q a)) ∙ ap (λ r. (q *ℤ neg_ℤ a) ∷ r) (at x)

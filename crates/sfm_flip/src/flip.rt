@@ -4,7 +4,7 @@
 ghost use Rattle.std.specs.{Prelude.{◌≡◌, ◌*◌, ◌^◌, pos, ◌≤ℤ◌, IfOk}, List.{All}};
 ghost use Rattle.sfm_spec.specs.Bounds.{IsEntry};
 ghost use Rattle.sfm_kind.specs.{Meanings.{kind_places}, Kinds.{kind_size}};
-ghost use Rattle.sfm_flip.specs.{Flipped.{negated}, Flips.{flip_value, flip_size, flip_start, flip_fits, flip-family, flip-submodular, flip-bounded, flip-starts, flip-starts_small}};
+ghost use Rattle.sfm_flip.specs.{Flipped.{negated}, Flips.{flip_value, flip_size, flip_start, flip_fits, flip-family, flip-submodular, flip-bounded, flip-starts, flip-starts_small, flip-starts_times}};
 
 use crate::note::{FlipNote, Owed, note_at, settle, tell_column};
 use sfm_base::{Memory, Numbers, Set};
@@ -96,6 +96,8 @@ impl Term for Flip {
     ghost starts = { flip-starts };
 
     ghost starts_small = { flip-starts_small };
+
+    ghost starts_times = { flip-starts_times };
 
     fn elements(&self) -> &[usize] {
         self.term.elements()

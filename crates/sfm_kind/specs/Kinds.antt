@@ -4,24 +4,25 @@ use Rattle.std.specs.List.{All}
 use Rattle.sfm_spec.specs.Sets.{magnitudes}
 use Rattle.sfm_spec.specs.Terms.{SetFunction, times, IsBase, IsFamily, IsSubmodular}
 use Rattle.sfm_spec.specs.Kinds.{weight_value, cut_value, cover_value, need_value, table_value, concave_value, uniform_value}
-use Rattle.sfm_simple.specs.WeightLaws.{scaled, weight-family, weight-submodular, weight-bounded, weight-starts, weight-starts_small}
-use Rattle.sfm_simple.specs.CutLaws.{cut_start, cut-family, cut-submodular, cut-bounded, cut-starts, cut-starts_small}
-use Rattle.sfm_simple.specs.CoverLaws.{cover_start, cover-family, cover-submodular, cover-bounded, cover-starts, cover-starts_small}
-use Rattle.sfm_simple.specs.NeedLaws.{need-family, need-submodular, need-bounded, need-starts, need-starts_small}
-use Rattle.sfm_simple.specs.TableLaws.{greatest, table_start, table-family, table-bounded, table-starts, table-starts_small}
-use Rattle.sfm_concave.specs.ConcaveLaws.{concave_start, concave-family, concave-submodular, concave-bounded, concave-starts, concave-starts_small}
+use Rattle.sfm_simple.specs.WeightLaws.{scaled, weight-family, weight-submodular, weight-bounded, weight-starts, weight-starts_small, weight-starts_times}
+use Rattle.sfm_simple.specs.CutLaws.{cut_start, cut-family, cut-submodular, cut-bounded, cut-starts, cut-starts_small, cut-starts_times}
+use Rattle.sfm_simple.specs.CoverLaws.{cover_start, cover-family, cover-submodular, cover-bounded, cover-starts, cover-starts_small, cover-starts_times}
+use Rattle.sfm_simple.specs.NeedLaws.{need-family, need-submodular, need-bounded, need-starts, need-starts_small, need-starts_times}
+use Rattle.sfm_simple.specs.TableLaws.{greatest, table_start, table-family, table-bounded, table-starts, table-starts_small, table-starts_times}
+use Rattle.sfm_concave.specs.ConcaveLaws.{concave_start, concave-family, concave-submodular, concave-bounded, concave-starts, concave-starts_small, concave-starts_times}
 use Rattle.sfm_concave.specs.ConcaveLaws as concaves
-use Rattle.sfm_concave.specs.UniformLaws.{uniform_size, uniform_start, uniform-family, uniform-submodular, uniform-bounded, uniform-starts, uniform-starts_small}
-use Rattle.sfm_laminar.specs.LaminarLaws.{laminar_value, laminar_size, laminar_start, laminar-family, laminar-submodular, laminar-bounded, laminar-starts, laminar-starts_small}
+use Rattle.sfm_concave.specs.UniformLaws.{uniform_size, uniform_start, uniform-family, uniform-submodular, uniform-bounded, uniform-starts, uniform-starts_small, uniform-starts_times}
+use Rattle.sfm_laminar.specs.LaminarLaws.{laminar_value, laminar_size, laminar_start, laminar-family, laminar-submodular, laminar-bounded, laminar-starts, laminar-starts_small, laminar-starts_times}
 use Rattle.sfm_matroid.specs.Graphs.{graphic_value, graphic_size, graphic_start}
-use Rattle.sfm_matroid.specs.GraphicLaws.{graphic-family, graphic-submodular, graphic-bounded, graphic-starts, graphic-starts_small}
+use Rattle.sfm_matroid.specs.GraphicLaws.{graphic-family, graphic-submodular, graphic-bounded, graphic-starts, graphic-starts_small, graphic-starts_times}
 use Rattle.sfm_matroid.specs.Slots.{transversal_value, transversal_size, transversal_start}
-use Rattle.sfm_matroid.specs.TransversalLaws.{transversal-family, transversal-submodular, transversal-bounded, transversal-starts, transversal-starts_small}
+use Rattle.sfm_matroid.specs.TransversalLaws.{transversal-family, transversal-submodular, transversal-bounded, transversal-starts, transversal-starts_small, transversal-starts_times}
 use Rattle.sfm_kind.specs.declared.kind.Kind.{Kind}
 use Rattle.sfm_kind.specs.declared.kind.Kind.TheVariants.{Weight, Cut, Cover, Need, Table, Concave, Uniform, Laminar, Graphic, Transversal}
 use Rattle.sfm_kind.specs.declared.kind.KindNote.{KindNote}
 pub use Rattle.sfm_kind.specs.Meanings.{kind_places}
 use Rattle.sfm_kind.specs.Notes.{concave_note_fits, laminar_note_fits, graphic_note_fits, transversal_note_fits}
+use Rattle.std.proofs.Common.{map, ◌*ℤ◌}
 
 -- the value at each allowed part
 abbrev pub kind_value : Kind → SetFunction
@@ -142,3 +143,15 @@ kind-starts_small (Uniform term) q low = uniform-starts_small _ q term.w term.ca
 kind-starts_small (Laminar term) q low = laminar-starts_small (length term.places) term.w term.groups term.low term.grouped q low
 kind-starts_small (Graphic term) q low = graphic-starts_small (length term.places) term.w term.ends term.same_count term.low q low
 kind-starts_small (Transversal term) q low = transversal-starts_small (length term.places) term.w term.entries term.same_count term.low q low
+
+pub kind-starts_times : (kind : Kind) (q : ℤ) → kind_start kind q ≡ map (λ a. q *ℤ a) (kind_start kind (pos 1))
+kind-starts_times (Weight term) q = weight-starts_times q term.weights
+kind-starts_times (Cut term) q = cut-starts_times q term.c
+kind-starts_times (Cover term) q = cover-starts_times (length term.places) q term.w
+kind-starts_times (Need term) q = need-starts_times q
+kind-starts_times (Table term) q = table-starts_times (length term.places) q term.values
+kind-starts_times (Concave term) q = concave-starts_times (length term.places) q term.values
+kind-starts_times (Uniform term) q = uniform-starts_times (length term.places) q term.w term.cap
+kind-starts_times (Laminar term) q = laminar-starts_times (length term.places) q term.w term.groups
+kind-starts_times (Graphic term) q = graphic-starts_times q term.w term.ends
+kind-starts_times (Transversal term) q = transversal-starts_times q term.w term.entries

@@ -5,7 +5,7 @@
 ghost use Rattle.std.specs.Prelude.{◌≡◌, Bool, List, length, ℤ, IfOk};
 ghost use Rattle.sfm_spec.specs.Terms.{SetFunction};
 ghost use Rattle.sfm_law.specs.Based.{IsBased};
-ghost use Rattle.sfm_kind.specs.{Meanings.{kind_places, IsValueOf, IsMeaningOf, size_by, IsStartOf}, Kinds.{kind_value, kind_size, kind_start, kind_lean_value, kind_lean_calls, kind_fits, kind-family, kind-submodular, kind-bounded, kind-starts, kind-starts_small}};
+ghost use Rattle.sfm_kind.specs.{Meanings.{kind_places, IsValueOf, IsMeaningOf, size_by, IsStartOf}, Kinds.{kind_value, kind_size, kind_start, kind_lean_value, kind_lean_calls, kind_fits, kind-family, kind-submodular, kind-bounded, kind-starts, kind-starts_small, kind-starts_times}};
 
 use sfm_base::{Memory, Set};
 use sfm_concave::{Concave, Uniform};
@@ -193,6 +193,8 @@ impl Term for Kind {
     ghost starts = { kind-starts };
 
     ghost starts_small = { kind-starts_small };
+
+    ghost starts_times = { kind-starts_times };
 
     fn elements(&self) -> &[usize] {
         by_kind!(self, term => term.elements())

@@ -1,12 +1,12 @@
 -- The weighted rank of groups of which no two cross, and its laws.
 -- Textbook: Schrijver, Combinatorial Optimization, sections 39 and 44.
-use Rattle.std.proofs.Common.{◌≡◌, ℕ, Bool, List, length, ℤ, pos, neg_ℤ, ◌*ℤ◌, ◌≤ℤ◌, Some}
+use Rattle.std.proofs.Common.{◌≡◌, ℕ, Bool, List, length, ℤ, pos, neg_ℤ, ◌*ℤ◌, ◌≤ℤ◌, Some, map}
 use Rattle.std.specs.List.{All}
 use Rattle.sfm_spec.specs.Sets.{whole_set, size}
 use Rattle.sfm_spec.specs.Terms.{SetFunction, times, IsBase, IsFamily, IsSubmodular, IsGreedy}
 use Rattle.sfm_spec.specs.Kinds.{Group, IsRankFunction, IsWithinCaps}
 use Rattle.sfm_rank.specs.Terms.{at_places, IsFirstBasis}
-use Rattle.sfm_rank.proofs.Terms.{rank-bounded, rank-family, rank-function, rank-greedy, rank-law, rank-starts, rank-starts_small}
+use Rattle.sfm_rank.proofs.Terms.{rank-bounded, rank-family, rank-function, rank-greedy, rank-law, rank-starts, rank-starts_small, at_places-times}
 use Rattle.sfm_rank.proofs.Growing.{first_basis}
 use Rattle.sfm_laminar.specs.Groups.{AreGroups}
 use Rattle.sfm_laminar.specs.Grown.{grown}
@@ -51,3 +51,6 @@ module _ (k : ℕ) (w : ℤ) (groups : List Group) (low : pos 0 ≤ℤ w) (ok : 
 
   pub laminar-starts_small : (q : ℤ) → pos 1 ≤ℤ q → All (λ a. (neg_ℤ ((pos 2 *ℤ q) *ℤ laminar_size k w groups) ≤ℤ a) × (a ≤ℤ ((pos 2 *ℤ q) *ℤ laminar_size k w groups))) (laminar_start k q w groups)
   laminar-starts_small = rank-starts_small k w (IsWithinCaps groups) (rank k groups) low (caps-matroid k groups ok) (caps-ranks k groups ok) (basis_of k groups) (laminar-first k groups ok)
+
+pub laminar-starts_times : (k : ℕ) (q w : ℤ) (groups : List Group) → laminar_start k q w groups ≡ map (λ a. q *ℤ a) (laminar_start k (pos 1) w groups)
+laminar-starts_times k q w groups = at_places-times q w (basis_of k groups)

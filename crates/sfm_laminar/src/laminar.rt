@@ -6,7 +6,7 @@
 ghost use Rattle.std.specs.{Prelude.{◌≡◌, ◌≢◌, ◌↔◌, ℕ, ◌<◌, ◌≤◌, ◌^◌, Bool, true, false, List, length, slice_index_or, ℤ, pos, neg_ℤ, ◌*ℤ◌, ◌+ℤ◌, ◌-ℤ◌, ◌≤ℤ◌, ◌<ℤ◌, IfOk, IfSome, OnOk, IsTrue, Option, Some, Ok, Err, Contains}, List.{All}};
 ghost use Rattle.sfm_spec.specs.{Bounds.{IsAtMost, IsEntry, IsFactor, IsGiven, AreElements, total_of}, Sets.{Has, size}, Terms.{SetFunction, times, IsBase, IsFamily, IsSubmodular, IsGreedy, exchanged}, Kinds.{IsWithinCaps, IsRank, IsRankFunction}};
 ghost use Rattle.sfm_law.specs.{Based.{IsPair}, Room.{IsRoom, IsReach}};
-ghost use Rattle.sfm_laminar.specs.{Groups.{IsGroup, IsBelow, AreGroups, NoneCross, IsFirstCrossing}, Crossing.{group_at}, Ranks.{rank}, Indexes.{IsIndex, AreHoldersOf, AreMasks}, Masks.{mask}, Slacks.{AreSlacks, IsSupport, laminar_fits, share_of}, Rooms.{slack_of, IsLeast, IsKept, IsHeld, IsHeldAt}, LaminarLaws.{laminar_value, laminar_size, laminar_start, basis_of, laminar-family, laminar-submodular, laminar-bounded, laminar-starts, laminar-starts_small}};
+ghost use Rattle.sfm_laminar.specs.{Groups.{IsGroup, IsBelow, AreGroups, NoneCross, IsFirstCrossing}, Crossing.{group_at}, Ranks.{rank}, Indexes.{IsIndex, AreHoldersOf, AreMasks}, Masks.{mask}, Slacks.{AreSlacks, IsSupport, laminar_fits, share_of}, Rooms.{slack_of, IsLeast, IsKept, IsHeld, IsHeldAt}, LaminarLaws.{laminar_value, laminar_size, laminar_start, basis_of, laminar-family, laminar-submodular, laminar-bounded, laminar-starts, laminar-starts_small, laminar-starts_times}};
 
 use crate::crossing::first_crossing;
 use crate::groups::{CappedGroup, Groups};
@@ -609,6 +609,8 @@ impl Term for Laminar {
 
     ghost starts_small = { λ s q low. laminar-starts_small (length s.places) s.w s.groups s.low
         s.grouped q low };
+
+    ghost starts_times = { λ s q. laminar-starts_times (length s.places) q s.w s.groups };
 
     fn elements(&self) -> &[usize] {
         self.places.as_slice()

@@ -12,3 +12,4 @@ pub mod Totals
 pub mod Puts
 pub mod Entries
 pub mod Places
+pub mod Multiples

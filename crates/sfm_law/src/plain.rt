@@ -1,7 +1,7 @@
 // The plain terms: their calls take no memory, and they keep nothing beside a base. What such a term gives is said here once,
 // with no allocator and no note, and makes it a term: each call of a term passes on to the plain one, a note is nothing, and so
 // it fits each base.
-ghost use Rattle.std.specs.{Prelude.{◌≡◌, ◌≢◌, ◌↔◌, ℕ, ◌<◌, Bool, List, length, ℤ, pos, neg_ℤ, ◌*ℤ◌, ◌≤ℤ◌, IfOk, OnOk, IsTrue, Some}, List.{All}};
+ghost use Rattle.std.specs.{Prelude.{◌≡◌, ◌≢◌, ◌↔◌, ℕ, ◌<◌, Bool, List, length, map, ℤ, pos, neg_ℤ, ◌*ℤ◌, ◌≤ℤ◌, IfOk, OnOk, IsTrue, Some}, List.{All}};
 ghost use Rattle.sfm_spec.specs.{Bounds.{IsEntry, IsFactor}, Terms.{SetFunction, times, IsBase, IsFamily, IsSubmodular, exchanged}};
 ghost use Rattle.sfm_law.specs.Room.{IsRoom, IsReach, IsWithinRoom};
 
@@ -91,6 +91,10 @@ pub trait Plain {
     ghost starts_small: { (term : Self) (q : ℤ) → pos 1 ≤ℤ q
         → All (λ a. (neg_ℤ (pos 2 *ℤ q *ℤ size_of term) ≤ℤ a) × (a ≤ℤ (pos 2 *ℤ q *ℤ size_of term)))
         (start_of term q) };
+
+    /// The start at a factor is so many times that of the term itself.
+    ghost starts_times: { (term : Self) (q : ℤ)
+        → start_of term q ≡ map (λ a. q *ℤ a) (start_of term (pos 1)) };
 }
 
 impl<T: Plain> Term for T {
@@ -119,6 +123,8 @@ impl<T: Plain> Term for T {
     ghost starts = { T.starts };
 
     ghost starts_small = { T.starts_small };
+
+    ghost starts_times = { T.starts_times };
 
     fn elements(&self) -> &[usize] {
         self.elements_of()

@@ -1,6 +1,6 @@
 // What a term of a sum is: a submodular function of a few places, with a test of bases, exchange capacities,
 // and a first base. Everything above speaks of terms by this trait alone.
-ghost use Rattle.std.specs.{Prelude.{◌≡◌, ◌↔◌, ℕ, ◌<◌, ◌^◌, Bool, List, length, ℤ, pos, neg_ℤ, ◌*ℤ◌, ◌≤ℤ◌, IfOk, IsOk, OnOk, IsTrue, Some}, List.{All}};
+ghost use Rattle.std.specs.{Prelude.{◌≡◌, ◌↔◌, ℕ, ◌<◌, ◌^◌, Bool, List, length, map, ℤ, pos, neg_ℤ, ◌*ℤ◌, ◌≤ℤ◌, IfOk, IsOk, OnOk, IsTrue, Some}, List.{All}};
 ghost use Rattle.sfm_spec.specs.{Bounds.{IsEntry, IsFactor}, Rows.{Depends}, Terms.{SetFunction, times, IsBase, IsFamily, IsSubmodular, exchanged}};
 ghost use Rattle.sfm_law.specs.{Based.{IsBased, IsPair, CanSwap}, Room.{IsRoom, IsReach}};
 
@@ -177,4 +177,8 @@ pub trait Term {
     ghost starts_small: { (term : Self) (q : ℤ) → pos 1 ≤ℤ q
         → All (λ a. (neg_ℤ (pos 2 *ℤ q *ℤ size_of term) ≤ℤ a) × (a ≤ℤ (pos 2 *ℤ q *ℤ size_of term)))
         (start_of term q) };
+
+    /// The start at a factor is so many times that of the term itself.
+    ghost starts_times: { (term : Self) (q : ℤ)
+        → start_of term q ≡ map (λ a. q *ℤ a) (start_of term (pos 1)) };
 }

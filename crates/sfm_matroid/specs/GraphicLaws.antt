@@ -1,13 +1,13 @@
 -- The laws of the weighted rank of the forests of a graph.
 -- Textbook: Schrijver, Combinatorial Optimization, sections 39, 44 and 50.
-use Rattle.std.proofs.Common.{◌≡◌, ℕ, Bool, true, List, length, ℤ, pos, neg_ℤ, ◌*ℤ◌, ◌≤ℤ◌, Some}
+use Rattle.std.proofs.Common.{◌≡◌, ℕ, Bool, true, List, length, ℤ, pos, neg_ℤ, ◌*ℤ◌, ◌≤ℤ◌, Some, map}
 use Rattle.std.specs.List.{All}
 use Rattle.std.proofs.lemmas.List.{length-replicate}
 use Rattle.sfm_spec.specs.Sets.{whole_set}
 use Rattle.sfm_spec.specs.Terms.{times, IsBase, IsFamily, IsSubmodular, IsGreedy}
 use Rattle.sfm_spec.specs.Kinds.{Edge, IsForest, IsRankFunction}
 use Rattle.sfm_rank.specs.Terms.{IsFirstBasis}
-use Rattle.sfm_rank.proofs.Terms.{rank-bounded, rank-family, rank-function, rank-greedy, rank-law, rank-starts, rank-starts_small}
+use Rattle.sfm_rank.proofs.Terms.{rank-bounded, rank-family, rank-function, rank-greedy, rank-law, rank-starts, rank-starts_small, at_places-times}
 use Rattle.sfm_rank.proofs.Growing.{first_basis}
 use Rattle.sfm_matroid.specs.Graphs.{graphic_basis, graphic_rank, graphic_size, graphic_start, graphic_value, taken}
 use Rattle.sfm_matroid.specs.Forests.{forest-growth, forest-matroid, graphic-ranks}
@@ -37,3 +37,6 @@ module _ (k : ℕ) (w : ℤ) (edges : List Edge) (same : length edges ≡ k) (lo
 
   pub graphic-starts_small : (q : ℤ) → pos 1 ≤ℤ q → All (λ a. (neg_ℤ (pos 2 *ℤ q *ℤ graphic_size w edges) ≤ℤ a) × (a ≤ℤ (pos 2 *ℤ q *ℤ graphic_size w edges))) (graphic_start q w edges)
   graphic-starts_small = rank-starts_small (length edges) w (IsForest edges) (graphic_rank edges) low (forest-matroid edges) (graphic-ranks edges) (graphic_basis edges) (basis-first edges)
+
+pub graphic-starts_times : (q w : ℤ) (edges : List Edge) → graphic_start q w edges ≡ map (λ a. q *ℤ a) (graphic_start (pos 1) w edges)
+graphic-starts_times q w edges = at_places-times q w (graphic_basis edges)

@@ -1,10 +1,10 @@
 -- The laws of the weighted rank of the sets whose members have distinct slots of their own entries.
 -- Textbook: Schrijver, Combinatorial Optimization, sections 39 and 44.
-use Rattle.std.proofs.Common.{◌≡◌, ℕ, Bool, List, length, ℤ, pos, neg_ℤ, ◌*ℤ◌, ◌≤ℤ◌, Some}
+use Rattle.std.proofs.Common.{◌≡◌, ℕ, Bool, List, length, ℤ, pos, neg_ℤ, ◌*ℤ◌, ◌≤ℤ◌, Some, map}
 use Rattle.std.specs.List.{All}
 use Rattle.sfm_spec.specs.Terms.{times, IsBase, IsFamily, IsSubmodular, IsGreedy}
 use Rattle.sfm_spec.specs.Kinds.{IsMatchable, IsRankFunction}
-use Rattle.sfm_rank.proofs.Terms.{rank-bounded, rank-family, rank-function, rank-greedy, rank-law, rank-starts, rank-starts_small}
+use Rattle.sfm_rank.proofs.Terms.{rank-bounded, rank-family, rank-function, rank-greedy, rank-law, rank-starts, rank-starts_small, at_places-times}
 use Rattle.sfm_matroid.specs.Slots.{transversal_basis, transversal_rank, transversal_size, transversal_start, transversal_value}
 use Rattle.sfm_matroid.specs.Matchings.{matching-matroid}
 use Rattle.sfm_matroid.specs.Transversals.{transversal-first, transversal-ranks}
@@ -31,3 +31,6 @@ module _ (k : ℕ) (w : ℤ) (entries : List (List ℕ)) (same : length entries 
 
   pub transversal-starts_small : (q : ℤ) → pos 1 ≤ℤ q → All (λ a. (neg_ℤ (pos 2 *ℤ q *ℤ transversal_size w entries) ≤ℤ a) × (a ≤ℤ (pos 2 *ℤ q *ℤ transversal_size w entries))) (transversal_start q w entries)
   transversal-starts_small = rank-starts_small (length entries) w (IsMatchable entries) (transversal_rank entries) low (matching-matroid (length entries) entries) (transversal-ranks entries) (transversal_basis entries) (transversal-first entries)
+
+pub transversal-starts_times : (q w : ℤ) (entries : List (List ℕ)) → transversal_start q w entries ≡ map (λ a. q *ℤ a) (transversal_start (pos 1) w entries)
+transversal-starts_times q w entries = at_places-times q w (transversal_basis entries)

@@ -6,7 +6,7 @@
 // one search in it.
 ghost use Rattle.std.specs.Prelude.{◌≡◌, ℕ, ◌<◌, ◌≤◌, ◌^◌, length, ℤ, pos, ◌≤ℤ◌, IfOk, IsOk, OnOk, Some, None};
 ghost use Rattle.sfm_spec.specs.{Bounds.{IsAtMost, IsFactor, IsGiven, AreElements}, Terms.{IsGreedy}, Kinds.{IsForest, IsRank, IsRankFunction}};
-ghost use Rattle.sfm_matroid.specs.{Ends.{edges_of}, Numbered.{IsEndOf, numbered, vertex_count}, Notes.{graphic_fits, AreOverEnds, IsGraphicBase}, Graphs.{graphic_rank, graphic_value, graphic_size, graphic_start, graphic_basis}, GraphicLaws.{graphic-family, graphic-submodular, graphic-bounded, graphic-starts, graphic-starts_small}};
+ghost use Rattle.sfm_matroid.specs.{Ends.{edges_of}, Numbered.{IsEndOf, numbered, vertex_count}, Notes.{graphic_fits, AreOverEnds, IsGraphicBase}, Graphs.{graphic_rank, graphic_value, graphic_size, graphic_start, graphic_basis}, GraphicLaws.{graphic-family, graphic-submodular, graphic-bounded, graphic-starts, graphic-starts_small, graphic-starts_times}};
 
 use crate::ends::Ends;
 use crate::givers::row;
@@ -251,6 +251,8 @@ impl Term for Graphic {
 
     ghost starts_small = { λ s q low. graphic-starts_small (length s.places) s.w s.ends s.same_count
         s.low q low };
+
+    ghost starts_times = { λ s q. graphic-starts_times q s.w s.ends };
 
     fn elements(&self) -> &[usize] {
         self.places.as_slice()

@@ -7,7 +7,7 @@
 // an exchange takes that copy, as it lacks only what v keeps.
 ghost use Rattle.std.specs.Prelude.{◌≡◌, ℕ, ◌<◌, ◌≤◌, ◌^◌, length, ℤ, pos, ◌≤ℤ◌, IfOk, IsOk, OnOk, Some};
 ghost use Rattle.sfm_spec.specs.{Bounds.{IsAtMost, IsFactor, IsGiven, AreElements}, Terms.{IsGreedy}, Kinds.{IsMatchable, IsRank, IsRankFunction}};
-ghost use Rattle.sfm_matroid.specs.{Slots.{transversal_rank, transversal_basis, transversal_value, transversal_size, transversal_start}, Notes.{transversal_fits}, TransversalLaws.{transversal-family, transversal-submodular, transversal-bounded, transversal-starts, transversal-starts_small}};
+ghost use Rattle.sfm_matroid.specs.{Slots.{transversal_rank, transversal_basis, transversal_value, transversal_size, transversal_start}, Notes.{transversal_fits}, TransversalLaws.{transversal-family, transversal-submodular, transversal-bounded, transversal-starts, transversal-starts_small, transversal-starts_times}};
 
 use crate::entries::Entries;
 use crate::givers::row;
@@ -150,6 +150,8 @@ impl Term for Transversal {
 
     ghost starts_small = { λ s q low. transversal-starts_small
         (length s.places) s.w s.entries s.same_count s.low q low };
+
+    ghost starts_times = { λ s q. transversal-starts_times q s.w s.entries };
 
     fn elements(&self) -> &[usize] {
         self.places.as_slice()

@@ -1,6 +1,6 @@
 -- A number w times the rank of a matroid is a term: its laws, and the base that a greatest independent set gives.
 -- Textbook: Schrijver, Combinatorial Optimization, sections 39, 40 and 44.
-use Rattle.std.proofs.Common.{◌≡◌, ℕ, zero, suc, ◌+◌, ◌<◌, Bool, true, false, cond, List, [], ◌∷◌, length, get_or, ℤ, pos, neg_ℤ, ◌+ℤ◌, ◌-ℤ◌, ◌*ℤ◌, ◌≤ℤ◌, if◌then◌else◌, Some, refl, sym, ap, ◌∙◌, arith}
+use Rattle.std.proofs.Common.{◌≡◌, ℕ, zero, suc, ◌+◌, ◌<◌, Bool, true, false, cond, List, [], ◌∷◌, length, get_or, ℤ, pos, neg_ℤ, ◌+ℤ◌, ◌-ℤ◌, ◌*ℤ◌, ◌≤ℤ◌, if◌then◌else◌, Some, refl, sym, ap, ◌∙◌, arith, map}
 use Rattle.std.specs.List.{All}
 use Rattle.std.proofs.lemmas.Int.{ints}
 use Rattle.std.proofs.lemmas.List.{length-replicate}
@@ -14,6 +14,7 @@ use Rattle.sfm_law.proofs.Greedy.{front, first_places-front, first_places-more, 
 use Rattle.sfm_rank.specs.Matroids.{AreRanks, IsMatroid}
 use Rattle.sfm_rank.specs.Terms.{at_places, rank_value, IsFirstBasis}
 use Rattle.sfm_rank.proofs.Ranks.{rank-mono, rank-submodular}
+use Rattle.sfm_law.proofs.Multiples.{times-once}
 
 pub at_places-length : (m : ℤ) (s : List Bool) → length (at_places m s) ≡ length s
 at_places-length m [] = refl
@@ -83,3 +84,9 @@ module _ (k : ℕ) (w : ℤ) (IsIndependent : List Bool → Type 0) (rank : List
 
     pub rank-starts_small : (q : ℤ) → pos 1 ≤ℤ q → All (λ a. (neg_ℤ ((pos 2 *ℤ q) *ℤ (w *ℤ pos (rank (whole_set k)))) ≤ℤ a) × (a ≤ℤ ((pos 2 *ℤ q) *ℤ (w *ℤ pos (rank (whole_set k)))))) (at_places (q *ℤ w) basis)
     rank-starts_small q hq = greedy_small k q (w *ℤ pos (rank (whole_set k))) (λ s. w *ℤ pos (rank s)) (at_places (q *ℤ w) basis) (omega (arith, ints)) small (rank-greedy q)
+
+-- q·w at the places of a set is q times w there
+pub at_places-times : (q w : ℤ) (s : List Bool) → at_places (q *ℤ w) s ≡ map (λ a. q *ℤ a) (at_places (pos 1 *ℤ w) s)
+at_places-times q w [] = refl
+at_places-times q w (true ∷ s) = ap (λ a. a ∷ at_places (q *ℤ w) s) (times-once q w) ∙ ap (λ r. (q *ℤ (pos 1 *ℤ w)) ∷ r) (at_places-times q w s)
+at_places-times q w (false ∷ s) = ap (λ a. a ∷ at_places (q *ℤ w) s) (sym (*ℤ-zero q)) ∙ ap (λ r. (q *ℤ pos 0) ∷ r) (at_places-times q w s)

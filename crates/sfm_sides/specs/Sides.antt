@@ -1,11 +1,11 @@
 -- What a term of either side is, and the laws that its calls rest on: on the left those of a kind, on the right those of a kind
 -- turned round.
-use Rattle.std.specs.Prelude.{◌≡◌, ℕ, Bool, List, length, ℤ, pos, neg_ℤ, ◌*ℤ◌, ◌≤ℤ◌, Some}
+use Rattle.std.specs.Prelude.{◌≡◌, ℕ, Bool, List, length, ℤ, pos, neg_ℤ, ◌*ℤ◌, ◌≤ℤ◌, Some, map}
 use Rattle.std.specs.List.{All}
 use Rattle.sfm_spec.specs.Terms.{SetFunction, times, IsFamily, IsSubmodular, IsBase}
 use Rattle.sfm_kind.specs.Meanings.{kind_places}
-use Rattle.sfm_kind.specs.Kinds.{kind_value, kind_size, kind_start, kind_lean_value, kind_lean_calls, kind-family, kind-submodular, kind-bounded, kind-starts, kind-starts_small}
-use Rattle.sfm_flip.specs.Flips.{flip_value, flip_size, flip_start, flip-family, flip-submodular, flip-bounded, flip-starts, flip-starts_small}
+use Rattle.sfm_kind.specs.Kinds.{kind_value, kind_size, kind_start, kind_lean_value, kind_lean_calls, kind-family, kind-submodular, kind-bounded, kind-starts, kind-starts_small, kind-starts_times}
+use Rattle.sfm_flip.specs.Flips.{flip_value, flip_size, flip_start, flip-family, flip-submodular, flip-bounded, flip-starts, flip-starts_small, flip-starts_times}
 use Rattle.sfm_sides.specs.SideNotes.{left_fits, right_fits}
 use Rattle.sfm_sides.specs.declared.side.Side.{Side}
 use Rattle.sfm_sides.specs.declared.side.SideNote.{SideNote}
@@ -68,3 +68,7 @@ pub side-starts_small : (side : Side) (q : ℤ) → pos 1 ≤ℤ q
     → All (λ a. (neg_ℤ ((pos 2 *ℤ q) *ℤ side_size side) ≤ℤ a) × (a ≤ℤ ((pos 2 *ℤ q) *ℤ side_size side))) (side_start side q)
 side-starts_small (Left kind) = kind-starts_small kind
 side-starts_small (Right kind) = flip-starts_small kind
+
+pub side-starts_times : (side : Side) (q : ℤ) → side_start side q ≡ map (λ a. q *ℤ a) (side_start side (pos 1))
+side-starts_times (Left kind) q = kind-starts_times kind q
+side-starts_times (Right kind) q = flip-starts_times kind q

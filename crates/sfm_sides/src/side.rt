@@ -1,6 +1,6 @@
 // One type for the terms of two sums of which the one is turned round. Each call of a term passes on to the kind or to the kind turned
 // round, and each member and law of a term goes by these two cases (specs/Sides.antt).
-ghost use Rattle.sfm_sides.specs.Sides.{side_places, side_value, side_size, side_start, side_lean_value, side_lean_calls, side_fits, side-family, side-submodular, side-bounded, side-starts, side-starts_small};
+ghost use Rattle.sfm_sides.specs.Sides.{side_places, side_value, side_size, side_start, side_lean_value, side_lean_calls, side_fits, side-family, side-submodular, side-bounded, side-starts, side-starts_small, side-starts_times};
 
 use sfm_base::{Memory, Set};
 use sfm_flip::{Flip, FlipNote};
@@ -98,6 +98,8 @@ impl Term for Side {
     ghost starts = { side-starts };
 
     ghost starts_small = { side-starts_small };
+
+    ghost starts_times = { side-starts_times };
 
     fn elements(&self) -> &[usize] {
         by_side!(self, term => term.elements())

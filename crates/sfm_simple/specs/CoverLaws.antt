@@ -1,5 +1,5 @@
 -- A number w that counts where a part has a place.
-use Rattle.std.proofs.Common.{◌≡◌, ◌≢◌, ℕ, zero, suc, ◌+◌, ◌-◌, ◌<◌, ◌≤◌, Bool, true, false, List, [], ◌∷◌, length, get_or, set, replicate, ℤ, pos, neg_ℤ, ◌+ℤ◌, ◌-ℤ◌, ◌*ℤ◌, ◌≤ℤ◌, Some, nat_eq, if◌then◌else◌, refl, sym, ap, ◌∙◌, arith, ⊎_elim, length-set, get_or-set_other, get_or-set_same}
+use Rattle.std.proofs.Common.{◌≡◌, ◌≢◌, ℕ, zero, suc, ◌+◌, ◌-◌, ◌<◌, ◌≤◌, Bool, true, false, List, [], ◌∷◌, length, get_or, set, replicate, ℤ, pos, neg_ℤ, ◌+ℤ◌, ◌-ℤ◌, ◌*ℤ◌, ◌≤ℤ◌, Some, nat_eq, if◌then◌else◌, refl, sym, ap, ◌∙◌, arith, ⊎_elim, length-set, get_or-set_other, get_or-set_same, map}
 use Rattle.std.specs.List.{All}
 use Rattle.std.proofs.Math.IntN.{*ℤ-zero}
 use Rattle.std.proofs.lemmas.Bool.{ne_eqb, eq-eqb, cases_eq, cases_lt, false≢true}
@@ -15,6 +15,7 @@ use Rattle.sfm_spec.proofs.Where.{size-cons}
 use Rattle.sfm_law.proofs.LocalLaw.{local_law}
 use Rattle.sfm_law.proofs.Greedy.{front, first_places-front, first_places-more, greedy_base, greedy_small}
 use Rattle.sfm_law.proofs.Monotone.{AreCounts, sum_over-mono, sum_over-without, without}
+use Rattle.sfm_law.proofs.Multiples.{times-once, zeros-times}
 
 -- the start: zeros, but q·w at the first place
 abbrev pub cover_start : ℤ → ℤ → ℕ → List ℤ
@@ -174,3 +175,7 @@ cover-starts k q w some hq hw =
 pub cover-starts_small : (k : ℕ) (q w : ℤ) → 0 < k → pos 1 ≤ℤ q → pos 0 ≤ℤ w → All (λ a. (neg_ℤ ((pos 2 *ℤ q) *ℤ w) ≤ℤ a) × (a ≤ℤ ((pos 2 *ℤ q) *ℤ w))) (cover_start q w k)
 unfolding covered
 cover-starts_small k q w some hq hw = greedy_small k q w (covered w) (cover_start q w k) (omega (arith, ints)) (λ s ks. cover-bounded w s _ hw refl) (cover-greedy k q w some)
+
+pub cover-starts_times : (k : ℕ) (q w : ℤ) → cover_start q w k ≡ map (λ a. q *ℤ a) (cover_start (pos 1) w k)
+cover-starts_times zero q w = refl
+cover-starts_times (suc k) q w = ap (λ a. a ∷ replicate k (pos 0)) (times-once q w) ∙ ap (λ r. (q *ℤ (pos 1 *ℤ w)) ∷ r) (zeros-times q k)

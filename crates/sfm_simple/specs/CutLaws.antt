@@ -1,5 +1,5 @@
 -- A number c that counts where a part has the first of two places and not the second.
-use Rattle.std.proofs.Common.{◌≡◌, ℕ, zero, suc, ◌+◌, ◌<◌, Bool, true, false, not, ◌&&◌, ◌||◌, List, [], ◌∷◌, length, get_or, ℤ, pos, neg_ℤ, ◌+ℤ◌, ◌-ℤ◌, ◌*ℤ◌, ◌≤ℤ◌, Some, if◌then◌else◌, refl, sym, ap, ◌∙◌, arith}
+use Rattle.std.proofs.Common.{◌≡◌, ℕ, zero, suc, ◌+◌, ◌<◌, Bool, true, false, not, ◌&&◌, ◌||◌, List, [], ◌∷◌, length, get_or, ℤ, pos, neg_ℤ, ◌+ℤ◌, ◌-ℤ◌, ◌*ℤ◌, ◌≤ℤ◌, Some, if◌then◌else◌, refl, sym, ap, ◌∙◌, arith, map}
 use Rattle.std.specs.List.{All}
 use Rattle.std.proofs.Math.IntN.{*ℤ-zero}
 use Rattle.std.proofs.lemmas.Int.{ints}
@@ -9,6 +9,7 @@ use Rattle.sfm_spec.specs.Kinds.{cut_value}
 use Rattle.sfm_spec.proofs.Sets.{get_or-union, get_or-intersection}
 use Rattle.sfm_law.proofs.Greedy.{greedy_small}
 use Rattle.sfm_spec.proofs.Scaled.{times-mono, times-neg}
+use Rattle.sfm_law.proofs.Multiples.{times-once}
 
 -- the start: all of q·c moved from the second place to the first
 abbrev pub cut_start : ℤ → ℤ → List ℤ
@@ -121,3 +122,6 @@ cut-greedy k q c two = rw two (record { places = refl; gains = gains }) where
 pub cut-starts_small : (q c : ℤ) → pos 1 ≤ℤ q → pos 0 ≤ℤ c → All (λ a. (neg_ℤ ((pos 2 *ℤ q) *ℤ c) ≤ℤ a) × (a ≤ℤ ((pos 2 *ℤ q) *ℤ c))) (cut_start q c)
 unfolding counted
 cut-starts_small q c hq hc = greedy_small 2 q c (λ s. counted c (get_or s 0 false) (get_or s 1 false)) (cut_start q c) (omega (arith, ints)) (λ s ks. cut-bounded c s _ hc refl) (cut-greedy 2 q c refl)
+
+pub cut-starts_times : (q c : ℤ) → cut_start q c ≡ map (λ a. q *ℤ a) (cut_start (pos 1) c)
+cut-starts_times q c = ap (λ a. a ∷ neg_ℤ a ∷ []) (times-once q c) ∙ ap (λ a. (q *ℤ (pos 1 *ℤ c)) ∷ a ∷ []) (sym (times-neg q (pos 1 *ℤ c)))

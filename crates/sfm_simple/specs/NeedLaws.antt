@@ -1,5 +1,5 @@
 -- The condition that a part with its first place has its second too.
-use Rattle.std.proofs.Common.{◌≡◌, ℕ, zero, suc, ◌<◌, Bool, true, false, not, ◌&&◌, List, [], ◌∷◌, length, get_or, ℤ, pos, neg_ℤ, ◌+ℤ◌, ◌*ℤ◌, ◌≤ℤ◌, Some, None, IsSome, if◌then◌else◌, refl, sym, ap, ◌∙◌, arith, ⊎_elim}
+use Rattle.std.proofs.Common.{◌≡◌, ℕ, zero, suc, ◌<◌, Bool, true, false, not, ◌&&◌, List, [], ◌∷◌, length, get_or, ℤ, pos, neg_ℤ, ◌+ℤ◌, ◌*ℤ◌, ◌≤ℤ◌, Some, None, IsSome, if◌then◌else◌, refl, sym, ap, ◌∙◌, arith, ⊎_elim, map}
 use Rattle.std.specs.List.{All}
 use Rattle.std.proofs.Math.IntN.{*ℤ-zero}
 use Rattle.std.proofs.lemmas.Int.{ints}
@@ -7,6 +7,7 @@ use Rattle.sfm_spec.specs.Sets.{Has, union, intersection, sum_over}
 use Rattle.sfm_spec.specs.Terms.{times, IsBase, IsFamily, IsSubmodular}
 use Rattle.sfm_spec.specs.Kinds.{need_value}
 use Rattle.sfm_spec.proofs.Sets.{in_union, union_left, union_right, in_both, in_first, in_second}
+use Rattle.sfm_law.proofs.Multiples.{zeros-times}
 
 allowed_when : (s : List Bool) → (Has s 0 → Has s 1) → IsSome (need_value s)
 allowed_when s h = at (get_or s 0 false) (get_or s 1 false) h where
@@ -94,3 +95,6 @@ need-starts_small q = at where
   at zero d h = rw zero_is (omega (arith, ints), omega (arith, ints))
   at (suc zero) d h = rw zero_is (omega (arith, ints), omega (arith, ints))
   at (suc (suc k)) d h = absurd (omega arith)
+
+pub need-starts_times : (q : ℤ) → (pos 0 ∷ pos 0 ∷ []) ≡ map (λ a. q *ℤ a) (pos 0 ∷ pos 0 ∷ [])
+need-starts_times q = zeros-times q 2

@@ -12,6 +12,7 @@ pub use Rattle.sfm_law.specs.Values.{greatest}
 use Rattle.sfm_law.proofs.Greedy.{front, first_places-front, first_places-more, greedy_base, greedy_small}
 use Rattle.sfm_simple.specs.Subsets.{members, members-binary, binary-none, binary-front, binary-lt}
 use Rattle.sfm_simple.specs.Breaches.{listed_at, BreaksLaw}
+use Rattle.sfm_law.proofs.Multiples.{map-times, times-once}
 
 -- what the place j adds to those before it, q times
 abbrev pub gain_of : ℤ → List ℤ → ℕ → ℤ
@@ -82,3 +83,6 @@ table-starts k q values low law =
 
 pub table-starts_small : (k : ℕ) (q : ℤ) (values : List ℤ) → pos 1 ≤ℤ q → All (λ a. (neg_ℤ ((pos 2 *ℤ q) *ℤ greatest values) ≤ℤ a) × (a ≤ℤ ((pos 2 *ℤ q) *ℤ greatest values))) (table_start q values k)
 table-starts_small k q values low = greedy_small k q (greatest values) (listed_at values) (table_start q values k) (omega (arith, ints)) (λ s ks. listed-small values (binary s)) (table-greedy k q values)
+
+pub table-starts_times : (k : ℕ) (q : ℤ) (values : List ℤ) → table_start q values k ≡ map (λ a. q *ℤ a) (table_start (pos 1) values k)
+table-starts_times k q values = map-times q (λ j. gain_of q values j) (λ j. gain_of (pos 1) values j) (λ j. times-once q _) (range_with_len 0 k)

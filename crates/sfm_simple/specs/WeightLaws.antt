@@ -10,6 +10,7 @@ use Rattle.sfm_spec.specs.Kinds.{weight_value}
 use Rattle.sfm_spec.proofs.Sums.{sum_over-modular}
 use Rattle.sfm_spec.proofs.Scaled.{times-add}
 use Rattle.sfm_law.proofs.Greedy.{first_places-front, first_places-more, sum_over-front, greedy_small}
+use Rattle.sfm_law.proofs.Multiples.{map-times, times-once}
 
 -- q times each number
 abbrev pub scaled : ℤ → List ℤ → List ℤ
@@ -112,3 +113,6 @@ weight-greedy k weights q same = record {
 pub weight-starts_small : (weights : List ℤ) (q : ℤ) → pos 1 ≤ℤ q → All (λ a. (neg_ℤ ((pos 2 *ℤ q) *ℤ magnitudes weights) ≤ℤ a) × (a ≤ℤ ((pos 2 *ℤ q) *ℤ magnitudes weights))) (scaled q weights)
 weight-starts_small weights q low = greedy_small (length weights) q (magnitudes weights) (λ s. sum_over s weights) (scaled q weights) (omega (arith, ints)) (λ s ks. sum_over-small s weights)
     (weight-greedy (length weights) weights q refl)
+
+pub weight-starts_times : (q : ℤ) (weights : List ℤ) → scaled q weights ≡ map (λ a. q *ℤ a) (scaled (pos 1) weights)
+weight-starts_times q weights = map-times q (λ w. q *ℤ w) (λ w. pos 1 *ℤ w) (times-once q) weights

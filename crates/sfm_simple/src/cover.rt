@@ -2,7 +2,7 @@
 // The bases of q times it have no negative entry, and q·w in all: so v can give to u whatever v has.
 ghost use Rattle.std.specs.{Prelude.{◌≡◌, ◌↔◌, ◌<◌, ◌≤◌, length, ℤ, pos, ◌≤ℤ◌, IfOk, IsTrue, Option, Some}, List.{All}};
 ghost use Rattle.sfm_spec.specs.{Bounds.{IsFactor, IsGiven, AreElements}, Terms.{times, IsGreedy}, Kinds.{cover_value}};
-ghost use Rattle.sfm_simple.specs.CoverLaws.{cover_start, cover-family, cover-submodular, cover-bounded, cover-starts, cover-starts_small};
+ghost use Rattle.sfm_simple.specs.CoverLaws.{cover_start, cover-family, cover-submodular, cover-bounded, cover-starts, cover-starts_small, cover-starts_times};
 
 use sfm_base::{Memory, Places, Set};
 use sfm_law::{Plain, Room, has_sum, product, put_others_over};
@@ -81,6 +81,8 @@ impl Plain for Cover {
     ghost starts = { λ s q low. cover-starts _ q s.w s.elements.some low s.low };
 
     ghost starts_small = { λ s q low. cover-starts_small _ q s.w s.elements.some low s.low };
+
+    ghost starts_times = { λ s q. cover-starts_times (length s.places) q s.w };
 
     fn elements_of(&self) -> &[usize] {
         self.places.as_slice()

@@ -2,7 +2,7 @@
 // The bases of q times it are t at the first and -t at the second, with t from 0 to q·c.
 ghost use Rattle.std.specs.Prelude.{◌≡◌, ◌≢◌, ◌↔◌, ◌<◌, ◌≤◌, [], ◌∷◌, length, ℤ, pos, ◌+ℤ◌, ◌≤ℤ◌, IsTrue, Option, Some};
 ghost use Rattle.sfm_spec.specs.{Bounds.{IsEntry, IsFactor, IsGiven, AreElements}, Terms.{times, IsGreedy}, Kinds.{cut_value}};
-ghost use Rattle.sfm_simple.specs.CutLaws.{cut_start, cut-family, cut-submodular, cut-bounded, cut-starts, cut-starts_small};
+ghost use Rattle.sfm_simple.specs.CutLaws.{cut_start, cut-family, cut-submodular, cut-bounded, cut-starts, cut-starts_small, cut-starts_times};
 
 use crate::pair::put_other;
 use sfm_base::Set;
@@ -72,6 +72,8 @@ impl Plain for Cut {
     ghost starts = { λ s q low. cut-starts _ q s.c s.two low s.low };
 
     ghost starts_small = { λ s q low. cut-starts_small q s.c low s.low };
+
+    ghost starts_times = { λ s q. cut-starts_times q s.c };
 
     fn elements_of(&self) -> &[usize] {
         &self.places

@@ -3,7 +3,7 @@
 // be exchanged, and from the second to the first as much as the first has.
 ghost use Rattle.std.specs.Prelude.{◌≡◌, ◌≢◌, ◌↔◌, ◌<◌, ◌≤◌, [], ◌∷◌, length, ℤ, pos, ◌+ℤ◌, ◌≤ℤ◌, IsTrue, Option, Some};
 ghost use Rattle.sfm_spec.specs.{Bounds.{IsEntry, AreElements}, Terms.{times}, Kinds.{need_value}};
-ghost use Rattle.sfm_simple.specs.NeedLaws.{need-family, need-submodular, need-bounded, need-starts, need-starts_small};
+ghost use Rattle.sfm_simple.specs.NeedLaws.{need-family, need-submodular, need-bounded, need-starts, need-starts_small, need-starts_times};
 
 use crate::pair::put_other;
 use sfm_base::Set;
@@ -66,6 +66,8 @@ impl Plain for Need {
     ghost starts = { λ s q low. need-starts _ q s.two };
 
     ghost starts_small = { λ s q low. need-starts_small q };
+
+    ghost starts_times = { λ s q. need-starts_times q };
 
     fn elements_of(&self) -> &[usize] {
         &self.places

@@ -4,7 +4,7 @@
 ghost use Rattle.std.specs.{Prelude.{◌≡◌, ◌≢◌, ◌↔◌, ℕ, ◌+◌, ◌-◌, ◌<◌, ◌≤◌, ◌^◌, true, false, length, slice_index_or, ℤ, pos, ◌*ℤ◌, ◌≤ℤ◌, IfOk, OnOk, IsTrue, Option, Some, Ok, Err}, List.{All}};
 ghost use Rattle.sfm_spec.specs.{Bounds.{IsAtMost, IsEntry, IsFactor, IsGiven, AreElements}, Sets.{Has}, Terms.{times, IsSubmodular, IsGreedy}, Kinds.{table_value}};
 ghost use Rattle.sfm_law.specs.Values.{greatest};
-ghost use Rattle.sfm_simple.specs.{Subsets.{members}, Breaches.{IsFirstBreach}, TableLaws.{gain_of, table_start, slack_of, Separates, IsLeastSlack, table-family, table-bounded, table-starts, table-starts_small}};
+ghost use Rattle.sfm_simple.specs.{Subsets.{members}, Breaches.{IsFirstBreach}, TableLaws.{gain_of, table_start, slack_of, Separates, IsLeastSlack, table-family, table-bounded, table-starts, table-starts_small, table-starts_times}};
 
 use crate::breach::first_breach;
 use crate::place::all_but;
@@ -258,6 +258,8 @@ impl Plain for Table {
     ghost starts = { λ s q low. table-starts _ q s.values low s.lawful };
 
     ghost starts_small = { λ s q low. table-starts_small _ q s.values low };
+
+    ghost starts_times = { λ s q. table-starts_times (length s.places) q s.values };
 
     fn elements_of(&self) -> &[usize] {
         self.places.as_slice()

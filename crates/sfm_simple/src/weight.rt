@@ -2,7 +2,7 @@
 // The one base of q times it is q times the numbers, so nothing can be exchanged.
 ghost use Rattle.std.specs.{Prelude.{◌≡◌, ◌↔◌, ◌<◌, ◌≤◌, true, false, length, pos, IfOk, IsTrue, Option, Some, if◌then◌else◌}, List.{All}};
 ghost use Rattle.sfm_spec.specs.{Bounds.{IsFactor, IsGiven, AreElements}, Sets.{sum_over, magnitudes}, Terms.{times, IsGreedy}, Kinds.{weight_value}};
-ghost use Rattle.sfm_simple.specs.WeightLaws.{scaled, weight-family, weight-submodular, weight-bounded, weight-starts, weight-starts_small};
+ghost use Rattle.sfm_simple.specs.WeightLaws.{scaled, weight-family, weight-submodular, weight-bounded, weight-starts, weight-starts_small, weight-starts_times};
 
 use sfm_base::{Memory, Numbers, Places, Set};
 use sfm_law::{Plain, Room, magnitude, product};
@@ -136,6 +136,8 @@ impl Plain for Weight {
     ghost starts = { λ s q low. weight-starts _ s.weights q s.same_count };
 
     ghost starts_small = { λ s q low. weight-starts_small s.weights q low };
+
+    ghost starts_times = { λ s q. weight-starts_times q s.weights };
 
     fn elements_of(&self) -> &[usize] {
         self.places.as_slice()

@@ -9,11 +9,12 @@ use Rattle.sfm_spec.specs.Terms.{SetFunction}
 use Rattle.sfm_spec.specs.Walks.{IsWalkChain, few_walks}
 use Rattle.sfm_spec.proofs.LeastWalks.{few_walks_small}
 use Rattle.sfm_spec.proofs.Scaled.{times-assoc, times-cancel, times-comm, times-mono}
-use Rattle.sfm_stage.specs.Served.{AreOrdered, AreServed, IsBetween, rows_times}
+use Rattle.sfm_stage.specs.Served.{AreOrdered, AreServed, IsBetween}
 use Rattle.sfm_stage.proofs.Chains.{walks_join}
 use Rattle.sfm_slope.specs.declared.turn.Breakpoint.{Breakpoint}
 use Rattle.sfm_slope.specs.declared.standing.Standing.{Standing}
 use Rattle.sfm_slope.specs.Standings.{AreReached, IsStanding}
+use Rattle.sfm_exchange.specs.Scaled.{rows_times}
 
 -- a larger number is larger times a weight
 weighed : (a b w : ℤ) → pos 0 ≤ℤ w → a ≤ℤ b → (a *ℤ w) ≤ℤ (b *ℤ w)
@@ -105,7 +106,7 @@ module _ (found : List Breakpoint) (i : ℕ) (before here m : ℤ) (point : Brea
 module _ {X N : Type 0} {places : X → List ℕ} {value : X → SetFunction} {size : X → ℤ} {fits : X → N → ℤ → List ℤ → Type 0} {start : X → ℤ → List ℤ} {terms : List X} {sizes : List ℤ}
     {found : List Breakpoint} {standing : Standing N} (h : IsStanding places value size fits start terms sizes found standing) where
   pub standing_over : (others : List Breakpoint) → ((P : Breakpoint → Type 0) → All P found → All P others) → IsStanding places value size fits start terms sizes others standing
-  standing_over others among = record { claimed = h.claimed; small = h.small; begins = h.begins; few = h.few; reached = among (λ b. IsWalkChain (meanings places value terms) b.slope.den (sized_shift sizes b.slope.num) standing.walks (rows_times b.slope.den standing.firsts) (rows_times b.slope.den standing.graph.bases)) h.reached }
+  standing_over others among = record { claimed = h.claimed; small = h.small; few = h.few; reached = among (λ b. IsWalkChain (meanings places value terms) b.slope.den (sized_shift sizes b.slope.num) standing.walks (rows_times b.slope.den (map (λ x. start x (pos 1)) terms)) (rows_times b.slope.den standing.graph.bases)) h.reached }
 
 -- what a list is mapped to behind others, with one element more
 pub mapped_behind : {X Y : Type 0} (f : X → Y) (xs : List X) (i : ℕ) (d : X) (front done : List Y) (y : Y) → i < length xs → done ≡ front ++ map f (take i xs) → y ≡ f (get_or xs i d)

@@ -27,6 +27,10 @@ mapped_more f xs i d done y l before is = rw (take_more xs i d l, map-append f (
 pub small_from_abs : (m : ℕ) (rows : List (List ℤ)) → All (λ x. All (λ a. unsigned_abs a ≤ m) x) rows → All (λ x. All (IsAtMost m) x) rows
 small_from_abs m rows h = λ k d l i e lt. at_most_from_abs m (get_or (get_or rows k d) i e) (h k d l i e lt)
 
+-- entries of at most m are at most what m is
+pub small_within : (m k : ℕ) → m ≤ k → (rows : List (List ℤ)) → All (λ x. All (IsAtMost m) x) rows → All (λ x. All (IsAtMost k) x) rows
+small_within m k le rows h = λ i d l j e lt. let b = h i d l j e lt in record { low = omega (arith, ints, b.low, le); high = omega (arith, ints, b.high, le) }
+
 -- entries of at most 10^19 have multiples of at most 10^25
 row-small : (q : ℤ) (x : List ℤ) → IsFactor q → All (IsAtMost (10 ^ 19)) x → All (IsAtMost (10 ^ 25)) (row_times q x)
 row-small q x f h = All-map (IsAtMost (10 ^ 25)) (λ a. q *ℤ a) x (λ k d l. one (get_or x k d) (h k d l)) where

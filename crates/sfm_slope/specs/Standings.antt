@@ -1,14 +1,14 @@
 -- Where the stages of the breakpoints end.
-use Rattle.std.specs.Prelude.{◌≡◌, ℕ, ◌^◌, ◌≤◌, List, length, map, ℤ, pos}
+use Rattle.std.specs.Prelude.{ℕ, ◌^◌, ◌≤◌, List, length, map, ℤ, pos}
 use Rattle.std.specs.List.{All}
 use Rattle.sfm_spec.specs.Bounds.{IsEntry}
 use Rattle.sfm_spec.specs.Terms.{SetFunction}
 use Rattle.sfm_spec.specs.Families.{Meaning, meanings, sized_shift, AreBases, Prove}
 use Rattle.sfm_spec.specs.Walks.{IsWalkChain, IsFewWalks}
 use Rattle.sfm_exchange.specs.Graph.{IsClaimed}
-use Rattle.sfm_stage.specs.Served.{rows_times}
 use Rattle.sfm_slope.specs.declared.standing.Standing.{Standing}
 use Rattle.sfm_slope.specs.declared.turn.Breakpoint.{Breakpoint}
+use Rattle.sfm_exchange.specs.Scaled.{rows_times}
 
 -- at each breakpoint t walk moves lead from the multiples of the first bases to those of the bases
 abbrev pub AreReached : List Meaning → List ℤ → ℕ → List (List ℤ) → List (List ℤ) → List Breakpoint → Type 0
@@ -20,9 +20,8 @@ pub record IsStanding {X N : Type 0} (places : X → List ℕ) (value : X → Se
     (sizes : List ℤ) (found : List Breakpoint) (standing : Standing N) : Type 0 where
   pub claimed : IsClaimed places value size fits terms (length sizes) (pos 1) standing.graph
   pub small : All (λ x. All IsEntry x) standing.graph.bases
-  pub begins : standing.firsts ≡ map (λ term. start term (pos 1)) terms
   pub few : standing.walks ≤ 10 ^ 13
-  pub reached : AreReached (meanings places value terms) sizes standing.walks standing.firsts standing.graph.bases found
+  pub reached : AreReached (meanings places value terms) sizes standing.walks (map (λ term. start term (pos 1)) terms) standing.graph.bases found
 
 -- bases with small entries that prove at a shift, and that few walks reach from the first ones
 pub record IsSection (terms : List Meaning) (firsts : List (List ℤ)) (n : ℕ) (q : ℤ) (shift : List ℤ) (rows : List (List ℤ)) : Type 0 where

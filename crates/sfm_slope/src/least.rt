@@ -4,17 +4,17 @@
 // slope p/q, q times its bases are where few walks are left. Where q is too large for this, they begin at the first bases. What
 // a minimiser is worth follows from the sum of min(z, 0), which it attains.
 ghost use Rattle.std.specs.{Prelude.{◌≡◌, ◌^◌, true, length, map, pos, ◌*ℤ◌, ◌≤ℤ◌, IfOk, OnOk}, List.{All}};
-ghost use Rattle.sfm_spec.specs.{Bounds.{IsAtMost}, Families.{meanings, shifted_at, sized_shift, IsLeast}, Sets.{magnitudes}, Slopes.{IsSameSlope}};
+ghost use Rattle.sfm_spec.specs.{Bounds.{IsAtMost, IsFactor}, Families.{meanings, shifted_at, sized_shift, IsLeast}, Sets.{magnitudes}, Slopes.{IsSameSlope}};
 ghost use Rattle.sfm_exchange.specs.Graph.{IsClaimed};
 ghost use Rattle.sfm_sizes.specs.Sizes.{AreElementSizes};
 ghost use Rattle.sfm_slope.specs.{Nears.{IsLeastNear}, Searches.{IsSearch}, Worths.{IsWorth}};
 
 use crate::attained::{Attained, worth_by};
-use crate::rows::{are_small, first_rows, grains, rows_times};
+use crate::rows::{are_small, grains};
 use crate::search::{GRAIN, Search, set_shift};
 use crate::worth::Worth;
 use sfm_base::{Memory, Slope, Steps};
-use sfm_exchange::{Beside, Graph, restart, restart_by, restart_times};
+use sfm_exchange::{Beside, Graph, restart_by, restart_times};
 use sfm_extreme::deficit_of;
 use sfm_law::Term;
 use sfm_walk::{improve, least_minimiser};
@@ -34,10 +34,10 @@ pub fn least_near<T: Term>(
     size: usize,
 ) -> Result<Worth, Memory>
     requires sizes { AreElementSizes (length sizes.now) sizes.now }
-    requires search { IsSearch T.places T.value_of T.size_of T.fits terms.now
+    requires search { IsSearch T.places T.value_of T.size_of T.fits T.start_of terms.now
         (length sizes.now) search.old }
     requires small { IsAtMost (10 ^ 19) slope.num }
-    ensures search { OnOk result (IsSearch T.places T.value_of T.size_of T.fits terms.now
+    ensures search { OnOk result (IsSearch T.places T.value_of T.size_of T.fits T.start_of terms.now
         (length sizes.now) search.new) }
     ensures least { IfOk result (λ r. IsLeastNear (meanings T.places T.value_of terms.now)
         (length sizes.now) sizes.now slope.num slope.den size r.set) }
@@ -85,17 +85,17 @@ fn least_below<T: Term>(
     p: i128,
 ) -> Result<Worth, Memory>
     requires sizes { AreElementSizes (length sizes.now) sizes.now }
-    requires search { IsSearch T.places T.value_of T.size_of T.fits terms.now
+    requires search { IsSearch T.places T.value_of T.size_of T.fits T.start_of terms.now
         (length sizes.now) search.old }
     requires small { IsAtMost (10 ^ 21) p }
-    ensures search { OnOk result (IsSearch T.places T.value_of T.size_of T.fits terms.now
+    ensures search { OnOk result (IsSearch T.places T.value_of T.size_of T.fits T.start_of terms.now
         (length sizes.now) search.new) }
     ensures least { IfOk result (λ r. IsLeast (meanings T.places T.value_of terms.now)
         (length sizes.now) (pos 64) (sized_shift sizes.now p) r.set) }
     ensures worth { IfOk result (IsWorth (meanings T.places T.value_of terms.now) sizes.now) }
 {
     let alloc = search.alloc;
-    keep_small(alloc, &mut search.warm, terms, sizes.len())?;
+    keep_small(alloc, &mut search.warm, terms, &search.first)?;
     set_shift(&mut search.shift, sizes, p);
     let least = least_by(alloc, &mut search.warm, terms, GRAIN, &search.shift)?;
     Ok(worth_by(least, sizes, p, GRAIN))
@@ -109,11 +109,11 @@ fn least_at<T: Term>(
     slope: Slope,
 ) -> Result<Worth, Memory>
     requires sizes { AreElementSizes (length sizes.now) sizes.now }
-    requires search { IsSearch T.places T.value_of T.size_of T.fits terms.now
+    requires search { IsSearch T.places T.value_of T.size_of T.fits T.start_of terms.now
         (length sizes.now) search.old }
     requires small { IsAtMost (10 ^ 19) slope.num }
     requires few { slope.den ≤ℤ pos 15625 }
-    ensures search { OnOk result (IsSearch T.places T.value_of T.size_of T.fits terms.now
+    ensures search { OnOk result (IsSearch T.places T.value_of T.size_of T.fits T.start_of terms.now
         (length sizes.now) search.new) }
     ensures least { IfOk result (λ r. IsLeast (meanings T.places T.value_of terms.now)
         (length sizes.now) slope.den (sized_shift sizes.now slope.num) r.set) }
@@ -122,12 +122,7 @@ fn least_at<T: Term>(
     let alloc = search.alloc;
     let p = grains(slope.num);
     let q = grains(slope.den);
-    let bases = rows_times(alloc, terms, slope.den, &search.warm.bases)?;
-    let warm = Beside {
-        graph: &search.warm,
-        q: GRAIN,
-    };
-    restart_times(alloc, &mut search.cold, terms, slope.den, bases, &warm)?;
+    multiply_warm(search, terms, slope.den, sizes)?;
     set_shift(&mut search.shift, sizes, p);
     let least = least_by(alloc, &mut search.cold, terms, q, &search.shift)?;
     Ok(worth_by(least, sizes, p, q))
@@ -141,28 +136,53 @@ fn least_from_first<T: Term>(
     slope: Slope,
 ) -> Result<Worth, Memory>
     requires sizes { AreElementSizes (length sizes.now) sizes.now }
-    requires search { IsSearch T.places T.value_of T.size_of T.fits terms.now
+    requires search { IsSearch T.places T.value_of T.size_of T.fits T.start_of terms.now
         (length sizes.now) search.old }
     requires small { IsAtMost (10 ^ 19) slope.num }
-    ensures search { OnOk result (IsSearch T.places T.value_of T.size_of T.fits terms.now
+    ensures search { OnOk result (IsSearch T.places T.value_of T.size_of T.fits T.start_of terms.now
         (length sizes.now) search.new) }
     ensures least { IfOk result (λ r. IsLeast (meanings T.places T.value_of terms.now)
         (length sizes.now) slope.den (sized_shift sizes.now slope.num) r.set) }
     ensures worth { IfOk result (IsWorth (meanings T.places T.value_of terms.now) sizes.now) }
 {
     let alloc = search.alloc;
-    let bases = first_rows(alloc, terms, slope.den)?;
-    restart_by(
-        alloc,
-        &mut search.cold,
-        terms,
-        slope.den,
-        bases,
-        &search.first,
-    )?;
+    restart_by(alloc, &mut search.cold, terms, slope.den, &search.first)?;
     set_shift(&mut search.shift, sizes, slope.num);
     let least = least_by(alloc, &mut search.cold, terms, slope.den, &search.shift)?;
     Ok(worth_by(least, sizes, slope.num, slope.den))
+}
+
+// The greatest magnitude of an entry that may be multiplied.
+const MOST_MULTIPLIED: u128 = 10_000_000_000_000_000_000;
+
+// Makes the cold graph one at q times the warm bases, or, where these are too large, at the first bases of the same factor.
+fn multiply_warm<T: Term>(
+    search: &mut Search<T::Note>,
+    terms: &[T],
+    q: i128,
+    _sizes: &[i128],
+) -> Result<(), Memory>
+    requires factor { IsFactor q }
+    requires few { q ≤ℤ pos 15625 }
+    requires search { IsSearch T.places T.value_of T.size_of T.fits T.start_of terms.now
+        (length _sizes.now) search.old }
+    ensures search { OnOk result (IsSearch T.places T.value_of T.size_of T.fits T.start_of terms.now
+        (length _sizes.now) search.new) }
+    ensures graph { OnOk result (IsClaimed T.places T.value_of T.size_of T.fits terms.now
+        (length _sizes.now) (q *ℤ pos 64) search.new.cold) }
+    ensures small { OnOk result (All (λ x. All (IsAtMost (10 ^ 25)) x) search.new.cold.bases) }
+{
+    let alloc = search.alloc;
+    if are_small(&search.warm.bases, MOST_MULTIPLIED) {
+        let warm = Beside {
+            graph: &search.warm,
+            q: GRAIN,
+        };
+        restart_times(alloc, &mut search.cold, terms, q, &warm)?;
+        return Ok(());
+    }
+    restart_by(alloc, &mut search.cold, terms, grains(q), &search.first)?;
+    Ok(())
 }
 
 // Leaves a graph of 64 times the terms as it is where its entries are small, and else takes it to the first bases.
@@ -170,18 +190,21 @@ fn keep_small<T: Term>(
     alloc: Global,
     graph: &mut Graph<T::Note>,
     terms: &[T],
-    n: usize,
+    first: &Graph<T::Note>,
 ) -> Result<(), Memory>
-    requires graph { IsClaimed T.places T.value_of T.size_of T.fits terms.now n (pos 64) graph.old }
-    ensures graph { OnOk result (IsClaimed T.places T.value_of T.size_of T.fits terms.now n
-        (pos 64) graph.new) }
+    requires graph { IsClaimed T.places T.value_of T.size_of T.fits terms.now
+        (length graph.old.spots.items) (pos 64) graph.old }
+    requires first { IsClaimed T.places T.value_of T.size_of T.fits terms.now
+        (length graph.old.spots.items) (pos 1) first.now }
+    requires begins { first.now.bases ≡ map (λ term. T.start_of term (pos 1)) terms.now }
+    ensures graph { OnOk result (IsClaimed T.places T.value_of T.size_of T.fits terms.now
+        (length graph.old.spots.items) (pos 64) graph.new) }
     ensures small { OnOk result (All (λ x. All (IsAtMost (10 ^ 25)) x) graph.new.bases) }
 {
     if are_small(&graph.bases, 10_000_000_000_000_000_000_000_000) {
         return Ok(());
     }
-    let bases = first_rows(alloc, terms, GRAIN)?;
-    restart(alloc, graph, terms, n, GRAIN, bases)?;
+    restart_by(alloc, graph, terms, GRAIN, first)?;
     Ok(())
 }
 

@@ -1,27 +1,27 @@
 // Bases to begin at: those of a slope that was looked at before, where their entries are small, and else the first bases of the
 // terms, whose entries always are. Bases of the terms hang on no slope, and q times a base of a term is one of q times the
-// term, so bases found at one slope serve at any other; they only have fewer walks before them.
+// term, so bases found at one slope serve at any other; they only have fewer walks before them. At any factor the first bases are
+// so many times those of the terms themselves.
 ghost use Rattle.std.specs.{Prelude.{◌≡◌, ◌↔◌, ◌≤◌, ◌^◌, map, pos, unsigned_abs, ◌*ℤ◌, ◌≤ℤ◌, IsTrue, IfOk}, List.{All}};
-ghost use Rattle.sfm_spec.specs.{Bounds.{IsAtMost, IsFactor, total_of}, Families.{meanings, AreBases}};
+ghost use Rattle.sfm_spec.specs.{Bounds.{IsAtMost, total_of}, Families.{meanings, AreBases}};
 
 use crate::search::GRAIN;
 use sfm_base::{Memory, Rows};
 use sfm_law::{Term, start_rows};
 use std::alloc::Global;
 
-/// The first bases of q times the terms, with entries of magnitude at most 10^25.
+/// The first bases of the terms, with entries of magnitude at most 10^19.
 ///
 /// # Errors
 ///
 /// `Memory` where there is none.
-pub fn first_rows<T: Term>(alloc: Global, terms: &[T], q: i128) -> Result<Rows, Memory>
+pub fn first_rows<T: Term>(alloc: Global, terms: &[T]) -> Result<Rows, Memory>
     requires sizes { total_of (map T.size_of terms.now) ≤ℤ pos (10 ^ 18) }
-    requires factor { IsFactor q }
-    ensures starts { IfOk result (λ r. r ≡ map (λ term. T.start_of term q) terms.now) }
-    ensures bases { IfOk result (AreBases q (meanings T.places T.value_of terms.now)) }
-    ensures small { IfOk result (λ r. All (λ x. All (IsAtMost (10 ^ 25)) x) r) }
+    ensures starts { IfOk result (λ r. r ≡ map (λ term. T.start_of term (pos 1)) terms.now) }
+    ensures bases { IfOk result (AreBases (pos 1) (meanings T.places T.value_of terms.now)) }
+    ensures small { IfOk result (λ r. All (λ x. All (IsAtMost (10 ^ 19)) x) r) }
 {
-    let rows = start_rows(alloc, terms, q)?;
+    let rows = start_rows(alloc, terms, 1)?;
     Ok(rows)
 }
 
@@ -32,33 +32,6 @@ pub fn grains(a: i128) -> i128
     ensures small { IsAtMost (10 ^ 21) result }
 {
     a * GRAIN
-}
-
-/// Bases of q times `GRAIN` times the terms with entries of magnitude at most 10^25: q times the given bases of `GRAIN` times
-/// the terms where these have entries of at most 10^19, and else the first bases.
-///
-/// # Errors
-///
-/// `Memory` where there is none.
-pub fn rows_times<T: Term>(
-    alloc: Global,
-    terms: &[T],
-    q: i128,
-    bases: &Rows,
-) -> Result<Rows, Memory>
-    requires sizes { total_of (map T.size_of terms.now) ≤ℤ pos (10 ^ 18) }
-    requires factor { IsFactor q }
-    requires few { q ≤ℤ pos 15625 }
-    requires bases { AreBases (pos 64) (meanings T.places T.value_of terms.now) bases.now }
-    ensures bases { IfOk result (AreBases (q *ℤ pos 64)
-        (meanings T.places T.value_of terms.now)) }
-    ensures small { IfOk result (λ r. All (λ x. All (IsAtMost (10 ^ 25)) x) r) }
-{
-    if are_small(bases, 10_000_000_000_000_000_000) {
-        let rows = bases.times(alloc, q)?;
-        return Ok(rows);
-    }
-    first_rows(alloc, terms, grains(q))
 }
 
 /// Whether each entry of each row has a magnitude of at most `most`.

@@ -9,7 +9,7 @@ ghost use Rattle.sfm_slope.specs.Searches.{IsSearch};
 
 use crate::rows::first_rows;
 use sfm_base::Memory;
-use sfm_exchange::{Graph, copy_graph, graph_at, graph_by};
+use sfm_exchange::{Graph, graph_at, graph_by};
 use sfm_law::Term;
 use sfm_sizes::write_sized;
 use std::alloc::Global;
@@ -52,13 +52,12 @@ impl<N> Search<N> {
     /// `Memory` where there is none.
     pub fn new<T: Term<Note = N>>(alloc: Global, terms: &[T], n: usize) -> Result<Search<N>, Memory>
         requires bounded { AreBounded n (map T.places terms.now) (map T.size_of terms.now) }
-        ensures { IfOk result (IsSearch T.places T.value_of T.size_of T.fits terms.now n) }
+        ensures { IfOk result (IsSearch T.places T.value_of T.size_of T.fits T.start_of terms.now n) }
     {
         let shift = vec![in alloc; 0i128; n]?;
-        let first = graph_at(alloc, terms, n, 1, first_rows(alloc, terms, 1)?)?;
-        let bases = first_rows(alloc, terms, GRAIN)?;
-        let warm = graph_by(alloc, terms, n, GRAIN, bases, &first)?;
-        let cold = copy_graph(alloc, &first, terms, n, 1)?;
+        let first = graph_at(alloc, terms, n, 1, first_rows(alloc, terms)?)?;
+        let warm = graph_by(alloc, terms, n, GRAIN, &first)?;
+        let cold = graph_by(alloc, terms, n, 1, &first)?;
         Ok(Search {
             alloc,
             first,

@@ -1,7 +1,7 @@
 // The bases of each breakpoint. They hang on the terms and the slopes alone, and few walks lead to them from the first bases,
 // however the breakpoints were found. Where there are few, or many more terms of few places each, each is found by a run of its own
 // from the first bases, and else by a tree of stages.
-ghost use Rattle.std.specs.{Prelude.{◌≡◌, length, map, IfOk, OnOk}, List.{All}};
+ghost use Rattle.std.specs.{Prelude.{◌≡◌, ◌++◌, length, map, IfOk, OnOk}, List.{All}};
 ghost use Rattle.sfm_spec.specs.Families.{meanings};
 ghost use Rattle.sfm_sizes.specs.Sizes.{AreElementSizes};
 ghost use Rattle.sfm_slope.specs.{Marks.{HasBasesBy, mark_of}, Points.{IsInRange, found_mark}, Searches.{IsSearch}};
@@ -23,7 +23,7 @@ pub fn sections<T: Term>(
     found: &[Breakpoint],
 ) -> Result<Vec<Break>, Memory>
     requires sizes { AreElementSizes (length sizes.now) sizes.now }
-    requires search { IsSearch T.places T.value_of T.size_of T.fits terms.now
+    requires search { IsSearch T.places T.value_of T.size_of T.fits T.start_of terms.now
         (length sizes.now) search.old }
     requires ranges { All (IsInRange sizes.now) found.now }
     ensures marks { IfOk result (λ r. map mark_of r.items ≡ map found_mark found.now) }
@@ -32,9 +32,7 @@ pub fn sections<T: Term>(
 {
     let mut breaks = Vec::new(search.alloc);
     if found.len() < FEW_BREAKPOINTS || is_dear(terms, found.len()) {
-        for point in found {
-            breaks.push(section(search, terms, sizes, point)?)?;
-        }
+        each_section(search, terms, sizes, found, &mut breaks)?;
         return Ok(breaks);
     }
     let first = first_standing(search.alloc, terms, sizes, found, &search.first)?;
@@ -57,6 +55,39 @@ const MANY_TERMS: usize = 6;
 // Cuts have two places, and fewer than so many are few.
 const FEW_PLACES: usize = 4;
 
+/// Puts each breakpoint behind those that are there, with bases that a run from the first ones finds.
+///
+/// # Errors
+///
+/// `Memory` where there is none.
+pub fn each_section<T: Term>(
+    search: &mut Search<T::Note>,
+    terms: &[T],
+    sizes: &[i128],
+    found: &[Breakpoint],
+    breaks: &mut Vec<Break>,
+) -> Result<(), Memory>
+    requires sizes { AreElementSizes (length sizes.now) sizes.now }
+    requires search { IsSearch T.places T.value_of T.size_of T.fits T.start_of terms.now
+        (length sizes.now) search.old }
+    requires ranges { All (IsInRange sizes.now) found.now }
+    requires before { All (HasBasesBy (meanings T.places T.value_of terms.now)
+        (λ q. map (λ term. T.start_of term q) terms.now) (length sizes.now) sizes.now)
+        breaks.old.items }
+    ensures search { OnOk result (IsSearch T.places T.value_of T.size_of T.fits T.start_of terms.now
+        (length sizes.now) search.new) }
+    ensures marks { OnOk result (map mark_of breaks.new.items
+        ≡ map mark_of breaks.old.items ++ map found_mark found.now) }
+    ensures bases { OnOk result (All (HasBasesBy (meanings T.places T.value_of terms.now)
+        (λ q. map (λ term. T.start_of term q) terms.now) (length sizes.now) sizes.now)
+        breaks.new.items) }
+{
+    for point in found {
+        breaks.push(section(search, terms, sizes, point)?)?;
+    }
+    Ok(())
+}
+
 /// A breakpoint with bases that prove at its slope, by a run from the first bases.
 ///
 /// # Errors
@@ -69,10 +100,10 @@ pub fn section<T: Term>(
     point: &Breakpoint,
 ) -> Result<Break, Memory>
     requires sizes { AreElementSizes (length sizes.now) sizes.now }
-    requires search { IsSearch T.places T.value_of T.size_of T.fits terms.now
+    requires search { IsSearch T.places T.value_of T.size_of T.fits T.start_of terms.now
         (length sizes.now) search.old }
     requires range { IsInRange sizes.now point.now }
-    ensures search { OnOk result (IsSearch T.places T.value_of T.size_of T.fits terms.now
+    ensures search { OnOk result (IsSearch T.places T.value_of T.size_of T.fits T.start_of terms.now
         (length sizes.now) search.new) }
     ensures mark { IfOk result (λ r. mark_of r ≡ found_mark point.now) }
     ensures bases { IfOk result (HasBasesBy (meanings T.places T.value_of terms.now)

@@ -7,9 +7,8 @@ ghost use Rattle.sfm_exchange.specs.Graph.{IsClaimed};
 ghost use Rattle.sfm_sizes.specs.Sizes.{AreElementSizes};
 ghost use Rattle.sfm_slope.specs.{Points.{IsInRange}, Standings.{IsStanding}};
 
-use crate::rows::first_rows;
 use crate::turn::Breakpoint;
-use sfm_base::{Memory, Rows, Slope};
+use sfm_base::{Memory, Slope};
 use sfm_exchange::{Graph, graph_by};
 use sfm_law::Term;
 use sfm_sizes::shift_by;
@@ -18,8 +17,6 @@ use std::alloc::Global;
 
 /// A graph of the terms, and how many walks lead to its bases from the first ones.
 pub struct Standing<N> {
-    /// The first bases of the terms.
-    pub firsts: Rows,
     /// The graph.
     pub graph: Graph<N>,
     /// The number of walks.
@@ -29,11 +26,7 @@ pub struct Standing<N> {
 // Written out, so that letting one go is one step, which is proved here once.
 impl<N: Drop> Drop for Standing<N> {
     fn drop(self) {
-        let Self {
-            firsts: _,
-            graph: _,
-            walks: _,
-        } = self;
+        let Self { graph: _, walks: _ } = self;
     }
 }
 
@@ -51,17 +44,12 @@ pub fn first_standing<T: Term>(
 ) -> Result<Standing<T::Note>, Memory>
     requires first { IsClaimed T.places T.value_of T.size_of T.fits terms.now (length sizes.now)
         (pos 1) first.now }
+    requires begins { first.now.bases ≡ map (λ term. T.start_of term (pos 1)) terms.now }
     ensures { IfOk result (IsStanding T.places T.value_of T.size_of T.fits T.start_of terms.now
         sizes.now _found.now) }
 {
-    let bases = first_rows(alloc, terms, 1)?;
-    let firsts = bases.copy(alloc)?;
-    let graph = graph_by(alloc, terms, sizes.len(), 1, bases, first)?;
-    Ok(Standing {
-        firsts,
-        graph,
-        walks: 0,
-    })
+    let graph = graph_by(alloc, terms, sizes.len(), 1, first)?;
+    Ok(Standing { graph, walks: 0 })
 }
 
 /// The same once more.
@@ -78,14 +66,12 @@ pub fn copy_standing<T: Term>(
 ) -> Result<Standing<T::Note>, Memory>
     requires standing { IsStanding T.places T.value_of T.size_of T.fits T.start_of terms.now
         sizes.now _found.now at.now }
+    requires small { All (λ x. All (IsAtMost (10 ^ 21)) x) at.now.graph.bases }
     ensures { IfOk result (IsStanding T.places T.value_of T.size_of T.fits T.start_of terms.now
         sizes.now _found.now) }
 {
-    let firsts = at.firsts.copy(alloc)?;
-    let bases = at.graph.bases.copy(alloc)?;
-    let graph = graph_by(alloc, terms, sizes.len(), 1, bases, &at.graph)?;
+    let graph = graph_by(alloc, terms, sizes.len(), 1, &at.graph)?;
     Ok(Standing {
-        firsts,
         graph,
         walks: at.walks,
     })

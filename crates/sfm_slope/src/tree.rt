@@ -4,22 +4,20 @@
 // those of the breakpoint's own run lead, one after the other, from the first bases to its section, and are counted. Where
 // there are too many, as where numbers are too large, the section is found from the first bases anew.
 ghost use Rattle.std.specs.{Prelude.{◌≡◌, ◌++◌, ◌∷◌, [], ◌^◌, ◌≤◌, true, length, map, pos, ◌≤ℤ◌, IfOk, OnOk, IfSome}, List.{All}};
-ghost use Rattle.sfm_spec.specs.{Bounds.{IsAtMost, IsFactor, total_of}, Families.{meanings, sized_shift}, Walks.{IsWalkChain}};
+ghost use Rattle.sfm_spec.specs.{Bounds.{IsAtMost}, Families.{meanings, sized_shift}, Walks.{IsWalkChain}};
 ghost use Rattle.sfm_sizes.specs.Sizes.{AreElementSizes};
-ghost use Rattle.sfm_exchange.specs.Scaled.{row_times};
-ghost use Rattle.sfm_stage.specs.Served.{rows_times};
+ghost use Rattle.sfm_exchange.specs.Scaled.{rows_times};
 ghost use Rattle.sfm_slope.specs.{Marks.{HasBasesBy, mark_of}, Points.{IsInRange, found_mark}, Searches.{IsSearch}, Standings.{IsStanding, IsSection}};
 
-use crate::rows::{are_small, first_rows};
+use crate::rows::are_small;
 use crate::search::{Search, set_shift};
-use crate::sections::section;
+use crate::sections::{each_section, section};
 use crate::standing::{Standing, copy_standing, most_walks, stage_over};
 use crate::turn::Breakpoint;
 use sfm_base::{Memory, Rows, Slope, Steps};
 use sfm_exchange::restart_by;
 use sfm_law::{Break, Term};
 use sfm_walk::improve;
-use std::alloc::Global;
 use std::mem;
 
 /// Puts the sections of some breakpoints behind those that are there, from the bases that a stage has led to.
@@ -36,7 +34,7 @@ pub fn branch<T: Term>(
     breaks: &mut Vec<Break>,
 ) -> Result<(), Memory>
     requires sizes { AreElementSizes (length sizes.now) sizes.now }
-    requires search { IsSearch T.places T.value_of T.size_of T.fits terms.now
+    requires search { IsSearch T.places T.value_of T.size_of T.fits T.start_of terms.now
         (length sizes.now) search.old }
     requires ranges { All (IsInRange sizes.now) found.now }
     requires standing { IsStanding T.places T.value_of T.size_of T.fits T.start_of terms.now
@@ -44,7 +42,7 @@ pub fn branch<T: Term>(
     requires before { All (HasBasesBy (meanings T.places T.value_of terms.now)
         (λ q. map (λ term. T.start_of term q) terms.now) (length sizes.now) sizes.now)
         breaks.old.items }
-    ensures search { OnOk result (IsSearch T.places T.value_of T.size_of T.fits terms.now
+    ensures search { OnOk result (IsSearch T.places T.value_of T.size_of T.fits T.start_of terms.now
         (length sizes.now) search.new) }
     ensures marks { OnOk result (map mark_of breaks.new.items
         ≡ map mark_of breaks.old.items ++ map found_mark found.now) }
@@ -53,12 +51,12 @@ pub fn branch<T: Term>(
         breaks.new.items) }
 {
     let few = most_walks(sizes.len(), terms.len());
-    if found.len() < 2 || at.walks > few || !are_small(&at.graph.bases, MOST_AT_STAGE) {
+    if found.len() < 2 || at.walks > few || !are_small(&at.graph.bases, MOST_MULTIPLIED) {
         return leaves(search, terms, sizes, found, &at, breaks);
     }
     let mut at = at;
     stage_over(search.alloc, terms, sizes, found, &mut at)?;
-    if found.len() < FEW_AT_LEAVES {
+    if found.len() < FEW_AT_LEAVES || !are_small(&at.graph.bases, MOST_MULTIPLIED) {
         return leaves(search, terms, sizes, found, &at, breaks);
     }
     let mid = found.len() / 2;
@@ -70,9 +68,6 @@ pub fn branch<T: Term>(
 
 // So few breakpoints go on by runs of their own from the end of one stage.
 const FEW_AT_LEAVES: usize = 8;
-
-// The greatest magnitude of an entry at which a stage may begin.
-const MOST_AT_STAGE: u128 = 10_000_000_000_000_000_000_000_000;
 
 // The greatest magnitude of an entry that may be multiplied.
 const MOST_MULTIPLIED: u128 = 10_000_000_000_000_000_000;
@@ -87,7 +82,7 @@ fn leaves<T: Term>(
     breaks: &mut Vec<Break>,
 ) -> Result<(), Memory>
     requires sizes { AreElementSizes (length sizes.now) sizes.now }
-    requires search { IsSearch T.places T.value_of T.size_of T.fits terms.now
+    requires search { IsSearch T.places T.value_of T.size_of T.fits T.start_of terms.now
         (length sizes.now) search.old }
     requires ranges { All (IsInRange sizes.now) found.now }
     requires standing { IsStanding T.places T.value_of T.size_of T.fits T.start_of terms.now
@@ -95,7 +90,7 @@ fn leaves<T: Term>(
     requires before { All (HasBasesBy (meanings T.places T.value_of terms.now)
         (λ q. map (λ term. T.start_of term q) terms.now) (length sizes.now) sizes.now)
         breaks.old.items }
-    ensures search { OnOk result (IsSearch T.places T.value_of T.size_of T.fits terms.now
+    ensures search { OnOk result (IsSearch T.places T.value_of T.size_of T.fits T.start_of terms.now
         (length sizes.now) search.new) }
     ensures marks { OnOk result (map mark_of breaks.new.items
         ≡ map mark_of breaks.old.items ++ map found_mark found.now) }
@@ -103,6 +98,9 @@ fn leaves<T: Term>(
         (λ q. map (λ term. T.start_of term q) terms.now) (length sizes.now) sizes.now)
         breaks.new.items) }
 {
+    if !are_small(&at.graph.bases, MOST_MULTIPLIED) {
+        return each_section(search, terms, sizes, found, breaks);
+    }
     for point in found {
         breaks.push(leaf(search, terms, sizes, point, at)?)?;
     }
@@ -118,55 +116,24 @@ fn leaf<T: Term>(
     at: &Standing<T::Note>,
 ) -> Result<Break, Memory>
     requires sizes { AreElementSizes (length sizes.now) sizes.now }
-    requires search { IsSearch T.places T.value_of T.size_of T.fits terms.now
+    requires search { IsSearch T.places T.value_of T.size_of T.fits T.start_of terms.now
         (length sizes.now) search.old }
     requires range { IsInRange sizes.now point.now }
     requires standing { IsStanding T.places T.value_of T.size_of T.fits T.start_of terms.now
         sizes.now (point.now ∷ []) at.now }
-    ensures search { OnOk result (IsSearch T.places T.value_of T.size_of T.fits terms.now
+    requires small { All (λ x. All (IsAtMost (10 ^ 19)) x) at.now.graph.bases }
+    ensures search { OnOk result (IsSearch T.places T.value_of T.size_of T.fits T.start_of terms.now
         (length sizes.now) search.new) }
     ensures mark { IfOk result (λ r. mark_of r ≡ found_mark point.now) }
     ensures bases { IfOk result (HasBasesBy (meanings T.places T.value_of terms.now)
         (λ q. map (λ term. T.start_of term q) terms.now) (length sizes.now) sizes.now) }
 {
     let slope = point.slope;
-    if let Some(bases) = multiple_of(search.alloc, terms, slope.den, at)? {
-        if let Some(bases) = walk_on(search, terms, sizes, slope, at, bases)? {
-            let set = point.set.copy(search.alloc)?;
-            return Ok(Break { slope, set, bases });
-        }
+    if let Some(bases) = walk_on(search, terms, sizes, slope, at)? {
+        let set = point.set.copy(search.alloc)?;
+        return Ok(Break { slope, set, bases });
     }
     section(search, terms, sizes, point)
-}
-
-// q times the bases that a stage has led to, where they are not too large and q times the first bases are the first bases of q
-// times the terms.
-fn multiple_of<T: Term>(
-    alloc: Global,
-    terms: &[T],
-    q: i128,
-    at: &Standing<T::Note>,
-) -> Result<Option<Rows>, Memory>
-    requires sizes { total_of (map T.size_of terms.now) ≤ℤ pos (10 ^ 18) }
-    requires factor { IsFactor q }
-    requires begins { at.now.firsts ≡ map (λ term. T.start_of term (pos 1)) terms.now }
-    ensures { IfOk result (λ r. IfSome r (λ rows. (rows ≡ rows_times q at.now.graph.bases)
-        × All (λ x. All (IsAtMost (10 ^ 25)) x) rows
-        × (rows_times q at.now.firsts ≡ map (λ term. T.start_of term q) terms.now))) }
-{
-    if !are_small(&at.graph.bases, MOST_MULTIPLIED) || !are_small(&at.firsts, MOST_MULTIPLIED) {
-        return Ok(None);
-    }
-    if q == 1 {
-        let copied = at.graph.bases.copy(alloc)?;
-        return Ok(Some(copied));
-    }
-    let starts = first_rows(alloc, terms, q)?;
-    if !at.firsts.are_times(q, &starts) {
-        return Ok(None);
-    }
-    let bases = at.graph.bases.times(alloc, q)?;
-    Ok(Some(bases))
 }
 
 // Bases that prove at a slope, by walks from the multiples of those that a stage has led to; None where the walks are too many
@@ -177,27 +144,26 @@ fn walk_on<T: Term>(
     sizes: &[i128],
     slope: Slope,
     at: &Standing<T::Note>,
-    bases: Rows,
 ) -> Result<Option<Rows>, Memory>
     requires sizes { AreElementSizes (length sizes.now) sizes.now }
-    requires search { IsSearch T.places T.value_of T.size_of T.fits terms.now
+    requires search { IsSearch T.places T.value_of T.size_of T.fits T.start_of terms.now
         (length sizes.now) search.old }
     requires range { IsAtMost (10 ^ 19) slope.num }
     requires standing { (found : _) × IsStanding T.places T.value_of T.size_of T.fits T.start_of
         terms.now sizes.now found at.now }
     requires chain { IsWalkChain (meanings T.places T.value_of terms.now) slope.den
         (sized_shift sizes.now slope.num) at.now.walks
-        (map (λ term. T.start_of term slope.den) terms.now) bases }
-    requires multiple { bases ≡ rows_times slope.den at.now.graph.bases }
-    requires small { All (λ x. All (IsAtMost (10 ^ 25)) x) bases }
-    ensures search { OnOk result (IsSearch T.places T.value_of T.size_of T.fits terms.now
+        (map (λ term. T.start_of term slope.den) terms.now)
+        (rows_times slope.den at.now.graph.bases) }
+    requires small { All (λ x. All (IsAtMost (10 ^ 19)) x) at.now.graph.bases }
+    ensures search { OnOk result (IsSearch T.places T.value_of T.size_of T.fits T.start_of terms.now
         (length sizes.now) search.new) }
     ensures section { IfOk result (λ r. IfSome r (IsSection
         (meanings T.places T.value_of terms.now) (map (λ term. T.start_of term slope.den) terms.now)
         (length sizes.now) slope.den (sized_shift sizes.now slope.num))) }
 {
     let alloc = search.alloc;
-    restart_by(alloc, &mut search.cold, terms, slope.den, bases, &at.graph)?;
+    restart_by(alloc, &mut search.cold, terms, slope.den, &at.graph)?;
     set_shift(&mut search.shift, sizes, slope.num);
     let mut steps = Steps::new();
     improve(

@@ -39,7 +39,7 @@ pub fn take_turn<T: Term>(
     high: &Worth,
 ) -> Result<Turn, Memory>
     requires sizes { AreElementSizes (length sizes.now) sizes.now }
-    requires search { IsSearch T.places T.value_of T.size_of T.fits terms.now
+    requires search { IsSearch T.places T.value_of T.size_of T.fits T.start_of terms.now
         (length sizes.now) search.old }
     requires begun { IsBegun (meanings T.places T.value_of terms.now)
         (length sizes.now) sizes.now low.now.set }
@@ -47,7 +47,7 @@ pub fn take_turn<T: Term>(
         (length sizes.now) sizes.now low.now.set high.now.set }
     requires low_worth { IsWorth (meanings T.places T.value_of terms.now) sizes.now low.now }
     requires high_worth { IsWorth (meanings T.places T.value_of terms.now) sizes.now high.now }
-    ensures search { OnOk result (IsSearch T.places T.value_of T.size_of T.fits terms.now
+    ensures search { OnOk result (IsSearch T.places T.value_of T.size_of T.fits T.start_of terms.now
         (length sizes.now) search.new) }
     ensures turn { IfOk result (IsTurn (meanings T.places T.value_of terms.now)
         (length sizes.now) sizes.now low.now.set high.now.set) }

@@ -6,7 +6,8 @@ use Rattle.std.specs.List.{All}
 use Rattle.sfm_spec.specs.Bounds.{IsAtMost}
 use Rattle.sfm_spec.specs.Families.{Meaning}
 use Rattle.sfm_spec.specs.Walks.{IsWalkChain}
-use Rattle.sfm_stage.specs.Served.{IsServing, rows_times}
+use Rattle.sfm_stage.specs.Served.{IsServing}
+use Rattle.sfm_exchange.specs.Scaled.{rows_times}
 
 pub walks_join : (terms : List Meaning) (q : ℤ) (shift : List ℤ) (t t' : ℕ) (rows mid last : List (List ℤ)) → IsWalkChain terms q shift t rows mid → IsWalkChain terms q shift t' mid last → IsWalkChain terms q shift (t + t') rows last
 walks_join terms q shift zero t' rows mid last h k =

@@ -12,8 +12,9 @@ use Rattle.sfm_spec.specs.Walks.{Step, term_at, base_at, IsStep, IsWalk, AllCanM
 use Rattle.sfm_spec.proofs.Labels.{falls_all, falls_within, steps_end_below}
 use Rattle.sfm_spec.proofs.Moves.{change_small}
 use Rattle.sfm_spec.proofs.Scaled.{times-mono, times-neg, times-sub}
-use Rattle.sfm_stage.specs.Served.{AreOrdered, IsBetween, IsServing, rows_times}
+use Rattle.sfm_stage.specs.Served.{AreOrdered, IsBetween, IsServing}
 use Rattle.sfm_stage.proofs.Times.{all_can_times, move_times, rest_times, some_times, steps_back, steps_times}
+use Rattle.sfm_exchange.specs.Scaled.{rows_times}
 
 -- a walk along which distances to the places above the lower shift fall by one at each step, and by no step faster, with an
 -- amount that its steps allow, and its ends at either shift

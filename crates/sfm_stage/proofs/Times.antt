@@ -1,55 +1,25 @@
 -- Multiples of bases: the same walks lead at them, and what is moved and what is left is multiplied with them.
-use Rattle.std.proofs.Common.{◌≡◌, ◌↔◌, ⊎_elim, inr, ℕ, zero, suc, ◌<◌, Bool, true, false, List, [], ◌∷◌, length, map, get_or, set, Some, nat_eq, ℤ, pos, ◌+ℤ◌, ◌-ℤ◌, ◌*ℤ◌, ◌≤ℤ◌, if◌then◌else◌, refl, sym, ap, subst, ◌∙◌, arith}
+use Rattle.std.proofs.Common.{◌≡◌, ◌↔◌, ⊎_elim, inr, ℕ, zero, suc, ◌<◌, Bool, true, false, List, [], ◌∷◌, length, map, get_or, set, nat_eq, ℤ, pos, ◌+ℤ◌, ◌-ℤ◌, ◌*ℤ◌, ◌≤ℤ◌, if◌then◌else◌, refl, sym, ap, subst, ◌∙◌, arith}
 use Rattle.std.proofs.Math.IntN.{*ℤ-zero}
 use Rattle.std.proofs.Math.ListN.{get_or-map}
 use Rattle.std.proofs.lemmas.Int.{ints}
 use Rattle.std.proofs.lemmas.List.{length-map, map-set}
-use Rattle.std.specs.Option.{option_map}
-use Rattle.sfm_spec.specs.Sets.{sum_over, whole_set}
 use Rattle.sfm_spec.specs.Terms.{SetFunction, times, IsBase, HasRoom, exchanged}
 use Rattle.sfm_spec.specs.Families.{Meaning, AreTerms, AreBases, entry_at, base_sum_at, rest_at}
 use Rattle.sfm_spec.specs.Rows.{Depends}
 use Rattle.sfm_spec.specs.Walks.{Step, term_at, base_at, CanMove, IsStep, AreSteps, AllCanMove, IsWalkMove, change_at}
-use Rattle.sfm_spec.proofs.Scaled.{times_some, times-add, times-assoc, times-mono, times-sub}
+use Rattle.sfm_spec.proofs.Scaled.{times-add, times-mono, times-sub}
 use Rattle.sfm_spec.proofs.Walks.{terms-at, bases-at}
-use Rattle.sfm_exchange.specs.Scaled.{row_times}
-use Rattle.sfm_exchange.proofs.Scaling.{depends_times, sum_over-times}
-use Rattle.sfm_stage.specs.Served.{rows_times}
-
--- q times a base of r times a term is a base of q·r times the term
-base-times : (q r : ℤ) (f : SetFunction) (x : List ℤ) → pos 1 ≤ℤ q → IsBase (times r f) x → IsBase (times (q *ℤ r) f) (row_times q x)
-base-times q r f x lq h = record { within = within; total = total } where
-  within : (s : List Bool) (c : ℤ) → length s ≡ length (row_times q x) → times (q *ℤ r) f s ≡ Some c → sum_over s (row_times q x) ≤ℤ c
-  within s c len is =
-      let (a, fs, ec) = times_some (q *ℤ r) (f s) c is in
-      let le : sum_over s x ≤ℤ (r *ℤ a) = h.within s (r *ℤ a) (len ∙ length-map x (λ a. q *ℤ a)) (ap (option_map (λ z. r *ℤ z)) fs) in
-      rw (sum_over-times q s x, ec, times-assoc q r a) (times-mono q (sum_over s x) (r *ℤ a) (omega (arith, ints, lq)) le)
-
-  total : times (q *ℤ r) f (whole_set (length (row_times q x))) ≡ Some (sum_over (whole_set (length (row_times q x))) (row_times q x))
-  total =
-      let w = whole_set (length x) in
-      let (a, fw, e) = times_some r (f w) (sum_over w x) h.total in
-      let same : ((q *ℤ r) *ℤ a) ≡ (q *ℤ sum_over w x) = times-assoc q r a ∙ ap (λ z. q *ℤ z) (sym e) in
-      let at : times (q *ℤ r) f w ≡ Some (sum_over w (row_times q x)) = ap (option_map (λ z. (q *ℤ r) *ℤ z)) fw ∙ ap Some same ∙ ap Some (sym (sum_over-times q w x)) in
-      rw length-map at
-
--- one for each term
-pub bases-times : (q r : ℤ) (terms : List Meaning) (rows : List (List ℤ)) → pos 1 ≤ℤ q → AreBases r terms rows → AreBases (q *ℤ r) terms (map (row_times q) rows)
-bases-times q r [] [] lq h = tt
-bases-times q r [] (x ∷ rows) lq h = absurd h
-bases-times q r (t ∷ terms) [] lq h = absurd h
-bases-times q r (t ∷ terms) (x ∷ rows) lq h = (length-map x (λ a. q *ℤ a) ∙ h.0, base-times q r t.value x lq h.1, bases-times q r terms rows lq h.2)
+use Rattle.sfm_exchange.specs.Scaled.{row_times, rows_times}
+use Rattle.sfm_exchange.proofs.Scaling.{depends_times, base-times}
 
 times-one : (q : ℤ) → (q *ℤ pos 1) ≡ q
 times-one q = omega (arith, ints)
 
 module _ (q : ℤ) (low : pos 1 ≤ℤ q) where
   -- of the terms themselves
-  pub base_multiple : (f : SetFunction) (x : List ℤ) → IsBase (times (pos 1) f) x → IsBase (times q f) (row_times q x)
+  base_multiple : (f : SetFunction) (x : List ℤ) → IsBase (times (pos 1) f) x → IsBase (times q f) (row_times q x)
   base_multiple f x h = subst (λ r. IsBase (times r f) (row_times q x)) (times-one q) (base-times q (pos 1) f x low h)
-
-  pub bases_multiple : (terms : List Meaning) (rows : List (List ℤ)) → AreBases (pos 1) terms rows → AreBases q terms (rows_times q rows)
-  bases_multiple terms rows h = subst (λ r. AreBases r terms (rows_times q rows)) (times-one q) (bases-times q (pos 1) terms rows low h)
 
   -- a multiple of something is something
   pub some_times : (a : ℤ) → pos 1 ≤ℤ a → pos 1 ≤ℤ (q *ℤ a)

@@ -1,14 +1,10 @@
 -- Walks that are walk moves at every slope between two.
-use Rattle.std.specs.Prelude.{◌≡◌, ℕ, ◌+◌, ◌*◌, ◌^◌, ◌<◌, List, length, map, slice_index_or, ℤ, pos, ◌*ℤ◌, ◌≤ℤ◌}
+use Rattle.std.specs.Prelude.{◌≡◌, ℕ, ◌+◌, ◌*◌, ◌^◌, ◌<◌, List, length, slice_index_or, ℤ, pos, ◌*ℤ◌, ◌≤ℤ◌}
 use Rattle.std.specs.List.{All}
 use Rattle.sfm_spec.specs.Bounds.{IsAtMost}
 use Rattle.sfm_spec.specs.Families.{Meaning}
 use Rattle.sfm_spec.specs.Walks.{IsWalkChain}
-use Rattle.sfm_exchange.specs.Scaled.{row_times}
-
--- q times each entry of each row
-abbrev pub rows_times : ℤ → List (List ℤ) → List (List ℤ)
-rows_times q rows = map (row_times q) rows
+use Rattle.sfm_exchange.specs.Scaled.{rows_times}
 
 -- no shift of the first list is above that of the second
 pub record AreOrdered (low high : List ℤ) : Type 0 where

@@ -223,8 +223,8 @@ pub fn minimise_from<T: Term>(
 
 /// Bases that prove the minimum of q times the sum of the terms less the shift, reached from the first bases of the terms by
 /// few walks. The graph is made one at these bases, whatever bases and factor it was at before, and its lists are used again;
-/// the bases are then taken out of it. Where the first bases are q times those of a second graph, one of the terms themselves,
-/// no term is asked for its rows there.
+/// the bases are then taken out of it. A second graph is at the first bases of the terms themselves, so no term is asked for a base
+/// nor for its rows there.
 ///
 /// # Errors
 ///
@@ -244,6 +244,7 @@ pub fn minimise_from_start<T: Term>(
     requires graph { IsShaped T.places T.value_of terms.now (length shift.now) graph.old }
     requires firsts { IsClaimed T.places T.value_of T.size_of T.fits terms.now (length shift.now)
         (pos 1) firsts.now }
+    requires begins { firsts.now.bases ≡ map (λ term. T.start_of term (pos 1)) terms.now }
     ensures graph { OnOk result (IsShaped T.places T.value_of terms.now
         (length shift.now) graph.new) }
     ensures bases { IfOk result (AreBases q (meanings T.places T.value_of terms.now)) }
@@ -255,8 +256,7 @@ pub fn minimise_from_start<T: Term>(
     ensures few { IfOk result (IsFewWalks (meanings T.places T.value_of terms.now)
         (length shift.now) q shift.now (map (λ term. T.start_of term q) terms.now)) }
 {
-    let first_bases = start_rows(alloc, terms, q)?;
-    restart_by(alloc, graph, terms, q, first_bases, firsts)?;
+    restart_by(alloc, graph, terms, q, firsts)?;
     let mut steps = Steps::new();
     improve(alloc, graph, terms, q, shift, &mut steps)?;
     Ok(mem::replace(&mut graph.bases, Rows::new(alloc)))

@@ -6,9 +6,6 @@ use Rattle.sfm_exchange.proofs.multiples.graph_by.Goals as goal
 pub blank_graph-requires : goal.blank_graph-requires
 blank_graph-requires g c = c.requires.other.bounded.placed
 
-pub restart_by-requires-clause-bounded : goal.restart_by-requires-clause-bounded
-restart_by-requires-clause-bounded g c = rw c.in_ok-graph.ensures.are_spots.count c.requires.other.bounded
-
 pub restart_by-requires-clause-factor : goal.restart_by-requires-clause-factor
 restart_by-requires-clause-factor g c = let fq : FitsSigned w128 c.args.q = c.ranges.q in simp to_z-of_z c.requires.factor
 
@@ -17,9 +14,6 @@ restart_by-requires-clause-graph g c = rw c.in_ok-graph.ensures.are_spots.count 
 
 pub restart_by-requires-clause-other : goal.restart_by-requires-clause-other
 restart_by-requires-clause-other g c = rw c.in_ok-graph.ensures.are_spots.count c.requires.other
-
-pub restart_by-requires-clause-bases : goal.restart_by-requires-clause-bases
-restart_by-requires-clause-bases g c = let fq : FitsSigned w128 c.args.q = c.ranges.q in simp to_z-of_z c.requires.bases
 
 pub restart_by-requires-clause-small : goal.restart_by-requires-clause-small
 restart_by-requires-clause-small g c = c.requires.small
@@ -31,4 +25,4 @@ returns-clause-graph g c =
     simp to_z-of_z at h
 
 pub returns-clause-bases : goal.returns-clause-bases
-returns-clause-bases g c = c.in_ok-restart_by.ensures.bases
+returns-clause-bases g c = let fq : FitsSigned w128 c.args.q = c.ranges.q in simp to_z-of_z at c.in_ok-restart_by.ensures.bases

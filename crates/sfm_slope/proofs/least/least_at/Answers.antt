@@ -5,7 +5,7 @@ use mir.Syntax.{w128}
 use Rattle.sfm_spec.specs.Families.{meanings, shifted_at, sized_shift, IsLeast}
 use Rattle.sfm_spec.proofs.Nest.{least_same_slope}
 use Rattle.sfm_exchange.proofs.ClaimedGraphs.{shaped}
-use Rattle.sfm_slope.proofs.Scaled.{factor-grains, rows-entries, same-grains}
+use Rattle.sfm_slope.proofs.Scaled.{factor-grains, same-grains}
 use Rattle.sfm_slope.proofs.Worthing.{attained_by, attained_worth}
 use Rattle.sfm_slope.proofs.least.least_at.Given as given
 use Rattle.sfm_slope.proofs.least.least_at.Goals as goal
@@ -25,36 +25,11 @@ long g c = ap length c.deref.ensures.value ∙ c.set_shift.ensures.places
 pub least_by-requires-clause-shifts : goal.least_by-requires-clause-shifts
 least_by-requires-clause-shifts g c = rw c.deref.ensures.value c.set_shift.ensures.small
 
-pub restart_times-requires-clause-bounded : goal.restart_times-requires-clause-bounded
-restart_times-requires-clause-bounded g c = rw c.requires.search.cold.are_spots.count c.requires.search.first.bounded
-
-pub restart_times-requires-clause-times : goal.restart_times-requires-clause-times
-restart_times-requires-clause-times g c =
+pub multiply_warm-requires : goal.multiply_warm-requires
+multiply_warm-requires g c =
     let s = c.args.slope in
     let fq : FitsSigned w128 s.den = omega (arith, ints, s.factor.low, s.factor.high) in
-    simp to_z-of_z s.factor
-
-pub restart_times-requires-clause-factor : goal.restart_times-requires-clause-factor
-restart_times-requires-clause-factor g c =
-    let s = c.args.slope in
-    let fq : FitsSigned w128 s.den = omega (arith, ints, s.factor.low, s.factor.high) in
-    simp to_z-of_z (factor-grains s.den s.factor c.requires.few)
-
-pub restart_times-requires-clause-graph : goal.restart_times-requires-clause-graph
-restart_times-requires-clause-graph g c = rw c.requires.search.cold.are_spots.count c.requires.search.cold
-
-pub restart_times-requires-clause-other : goal.restart_times-requires-clause-other
-restart_times-requires-clause-other g c = rw c.requires.search.cold.are_spots.count c.requires.search.warm
-
-pub restart_times-requires-clause-bases : goal.restart_times-requires-clause-bases
-restart_times-requires-clause-bases g c =
-    let s = c.args.slope in
-    let fq : FitsSigned w128 s.den = omega (arith, ints, s.factor.low, s.factor.high) in
-    let told = simp to_z-of_z at c.in_ok-bases.ensures.bases in
-    simp to_z-of_z told
-
-pub restart_times-requires-clause-small : goal.restart_times-requires-clause-small
-restart_times-requires-clause-small g c = rows-entries c.in_ok-bases.bases c.in_ok-bases.ensures.small
+    simp to_z-of_z (record { factor = s.factor; few = c.requires.few; search = c.requires.search })
 
 pub least_by-requires-clause-graph : goal.least_by-requires-clause-graph
 least_by-requires-clause-graph g c =
@@ -63,11 +38,13 @@ least_by-requires-clause-graph g c =
     let small = c.grains-q.ensures.small in
     let fq : FitsSigned w128 c.grains-q.result = omega (arith, ints, small.low, small.high) in
     let at = (goal.at.least_by-requires-clause-graph g c).After-deref in
-    let told = rw c.requires.search.cold.are_spots.count at (simp to_z-of_z at c.in_ok-restart_times.ensures.graph) in
-    rw (long g at) (simp to_z-of_z (rw (bottoms g at) told))
+    rw (long g at) (simp to_z-of_z (rw (bottoms g at) (simp to_z-of_z at c.in_ok-multiply_warm.ensures.graph)))
 
 pub least_by-requires-clause-small : goal.least_by-requires-clause-small
-least_by-requires-clause-small g c = rw c.in_ok-restart_times.ensures.bases c.in_ok-bases.ensures.small
+least_by-requires-clause-small g c = c.in_ok-multiply_warm.ensures.small
+
+pub set_shift-requires-clause-sizes : goal.set_shift-requires-clause-sizes
+set_shift-requires-clause-sizes g c = rw c.in_ok-multiply_warm.ensures.search.shift c.requires.sizes
 
 pub returns-clause-search : goal.returns-clause-search
 returns-clause-search g c =
@@ -76,8 +53,9 @@ returns-clause-search g c =
     let at = (goal.at.returns-clause-search g c).After-deref in
     let cold = rw (long g at) at (simp to_z-of_z at c.in_ok-least.ensures.graph) in
     record {
-      first = c.requires.search.first;
-      warm = c.requires.search.warm;
+      first = c.in_ok-multiply_warm.ensures.search.first;
+      begins = c.in_ok-multiply_warm.ensures.search.begins;
+      warm = c.in_ok-multiply_warm.ensures.search.warm;
       cold = shaped cold;
       shift = c.set_shift.ensures.places;
     }

@@ -13,7 +13,9 @@ long : (g : given.Over) (c : After-deref g) → length c.deref.result.now ≡ le
 long g c = ap length c.deref.ensures.value ∙ c.set_shift.ensures.places
 
 pub keep_small-requires : goal.keep_small-requires
-keep_small-requires g c = record { graph = c.requires.search.warm }
+keep_small-requires g c =
+    let r = c.requires.search in
+    record { graph = rw r.warm.are_spots.count r.warm; first = rw r.warm.are_spots.count r.first; begins = r.begins }
 
 pub set_shift-requires-clause-sizes : goal.set_shift-requires-clause-sizes
 set_shift-requires-clause-sizes g c = rw c.requires.search.shift c.requires.sizes
@@ -29,7 +31,7 @@ least_by-requires-clause-shifts g c = rw c.deref.ensures.value c.set_shift.ensur
 
 pub least_by-requires-clause-graph : goal.least_by-requires-clause-graph
 least_by-requires-clause-graph g c =
-    rw (long g (goal.at.least_by-requires-clause-graph g c).After-deref) c.in_ok-keep_small.ensures.graph
+    rw (long g (goal.at.least_by-requires-clause-graph g c).After-deref) (rw c.requires.search.warm.are_spots.count at c.in_ok-keep_small.ensures.graph)
 
 pub least_by-requires-clause-small : goal.least_by-requires-clause-small
 least_by-requires-clause-small g c = c.in_ok-keep_small.ensures.small
@@ -39,6 +41,7 @@ returns-clause-search g c =
     let at = (goal.at.returns-clause-search g c).After-deref in
     record {
       first = c.requires.search.first;
+      begins = c.requires.search.begins;
       warm = rw (long g at) at c.in_ok-least.ensures.graph;
       cold = c.requires.search.cold;
       shift = c.set_shift.ensures.places;

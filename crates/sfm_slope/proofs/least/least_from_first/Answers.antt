@@ -4,7 +4,8 @@ use Rattle.std.proofs.lemmas.List.{length-map}
 use mir.Syntax.{w128}
 use Rattle.sfm_spec.specs.Families.{meanings, shifted_at, sized_shift, IsLeast}
 use Rattle.sfm_exchange.proofs.ClaimedGraphs.{shaped}
-use Rattle.sfm_slope.proofs.Scaled.{rows-entries}
+use Rattle.sfm_exchange.specs.Scaled.{rows_times}
+use Rattle.sfm_slope.proofs.Starts.{firsts_small, multiples_small}
 use Rattle.sfm_slope.proofs.Worthing.{attained_by, attained_worth}
 use Rattle.sfm_slope.proofs.least.least_from_first.Given as given
 use Rattle.sfm_slope.proofs.least.least_from_first.Goals as goal
@@ -14,23 +15,17 @@ use Rattle.sfm_slope.proofs.least.least_from_first.Goals.{After-deref, In_ok-lea
 long : (g : given.Over) (c : After-deref g) → length c.deref.result.now ≡ length c.args.sizes.now
 long g c = ap length c.deref.ensures.value ∙ c.set_shift.ensures.places
 
-pub first_rows-requires-clause-sizes : goal.first_rows-requires-clause-sizes
-first_rows-requires-clause-sizes g c = c.requires.search.first.bounded.small
-
-pub restart_by-requires-clause-bounded : goal.restart_by-requires-clause-bounded
-restart_by-requires-clause-bounded g c = rw c.requires.search.cold.are_spots.count c.requires.search.first.bounded
-
 pub restart_by-requires-clause-graph : goal.restart_by-requires-clause-graph
 restart_by-requires-clause-graph g c = rw c.requires.search.cold.are_spots.count c.requires.search.cold
 
-pub restart_by-requires-clause-bases : goal.restart_by-requires-clause-bases
-restart_by-requires-clause-bases g c = c.in_ok-bases.ensures.bases
-
-pub restart_by-requires-clause-small : goal.restart_by-requires-clause-small
-restart_by-requires-clause-small g c = rows-entries c.in_ok-bases.bases c.in_ok-bases.ensures.small
-
 pub restart_by-requires-clause-other : goal.restart_by-requires-clause-other
 restart_by-requires-clause-other g c = rw c.requires.search.cold.are_spots.count c.requires.search.first
+
+pub restart_by-requires-clause-small : goal.restart_by-requires-clause-small
+restart_by-requires-clause-small g c =
+    let t = g.T.Term in
+    let m = g.met.T.Term in
+    rw c.requires.search.begins (firsts_small t.places t.value_of t.size_of m.submodular m.bounded _ c.args.terms.now c.requires.search.first.bounded t.start_of m.starts_times m.starts_small)
 
 pub set_shift-requires-clause-sizes : goal.set_shift-requires-clause-sizes
 set_shift-requires-clause-sizes g c = rw c.requires.search.shift c.requires.sizes
@@ -51,7 +46,13 @@ least_by-requires-clause-graph g c =
     rw (long g (goal.at.least_by-requires-clause-graph g c).After-deref) told
 
 pub least_by-requires-clause-small : goal.least_by-requires-clause-small
-least_by-requires-clause-small g c = rw c.in_ok-restart_by.ensures.bases c.in_ok-bases.ensures.small
+least_by-requires-clause-small g c =
+    let t = g.T.Term in
+    let m = g.met.T.Term in
+    let s = c.args.slope in
+    let fq : FitsSigned w128 s.den = omega (arith, ints, s.factor.low, s.factor.high) in
+    let bases = simp to_z-of_z at c.in_ok-restart_by.ensures.bases in
+    rw (bases ∙ ap (rows_times s.den) c.requires.search.begins) (multiples_small t.places t.value_of t.size_of m.submodular m.bounded _ c.args.terms.now c.requires.search.first.bounded t.start_of m.starts_times m.starts_small s.den s.factor)
 
 pub returns-clause-search : goal.returns-clause-search
 returns-clause-search g c =
@@ -61,6 +62,7 @@ returns-clause-search g c =
     let cold = rw (long g at) at (simp to_z-of_z at c.in_ok-least.ensures.graph) in
     record {
       first = c.requires.search.first;
+      begins = c.requires.search.begins;
       warm = c.requires.search.warm;
       cold = shaped cold;
       shift = c.set_shift.ensures.places;

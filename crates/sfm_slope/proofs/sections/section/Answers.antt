@@ -41,11 +41,15 @@ minimise_from_start-requires-clause-graph g c = rw (long g (goal.at.minimise_fro
 pub minimise_from_start-requires-clause-firsts : goal.minimise_from_start-requires-clause-firsts
 minimise_from_start-requires-clause-firsts g c = rw (long g (goal.at.minimise_from_start-requires-clause-firsts g c).After-deref) c.requires.search.first
 
+pub minimise_from_start-requires-clause-begins : goal.minimise_from_start-requires-clause-begins
+minimise_from_start-requires-clause-begins g c = c.requires.search.begins
+
 pub returns-clause-search : goal.returns-clause-search
 returns-clause-search g c =
     let at = (goal.at.returns-clause-search g c).After-deref in
     record {
       first = c.requires.search.first;
+      begins = c.requires.search.begins;
       warm = c.requires.search.warm;
       cold = rw (long g at) at c.in_ok-bases.ensures.graph;
       shift = c.set_shift.ensures.places;

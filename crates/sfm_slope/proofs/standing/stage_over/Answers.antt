@@ -1,4 +1,4 @@
-use Rattle.std.proofs.Common.{◌≡◌, length, ap, ◌∙◌, ◌^◌, FitsSigned, arith}
+use Rattle.std.proofs.Common.{◌≡◌, length, map, pos, ap, ◌∙◌, ◌^◌, FitsSigned, arith}
 use Rattle.std.proofs.lemmas.Int.{ints, to_z-of_z}
 use Rattle.std.proofs.lemmas.List.{length-map}
 use mir.Syntax.{w128}
@@ -61,8 +61,7 @@ returns g c =
     record {
       claimed = rw (long g at) at e.graph;
       small = e.small;
-      begins = s.begins;
       few = omega (arith, few, e.few);
-      reached = (reached_more sizes c.requires.sizes.positive (meanings t.places t.value_of c.args.terms.now) before.walks c.in_ok-walks.walks before.firsts before.graph.bases c.run_stage.new.graph.bases
+      reached = (reached_more sizes c.requires.sizes.positive (meanings t.places t.value_of c.args.terms.now) before.walks c.in_ok-walks.walks (map (λ x. t.start_of x (pos 1)) c.args.terms.now) before.graph.bases c.run_stage.new.graph.bases
           c.args.found.now c.floor_of.result c.ceiling_of.result s.reached served c.floor_of.ensures.low c.ceiling_of.ensures.high);
     }

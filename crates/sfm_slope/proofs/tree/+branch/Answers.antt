@@ -6,7 +6,7 @@ use Rattle.sfm_slope.specs.declared.turn.Breakpoint.{Breakpoint}
 use Rattle.sfm_slope.specs.Marks.{mark_of}
 use Rattle.sfm_slope.specs.Points.{IsInRange, found_mark}
 use Rattle.sfm_slope.proofs.Reached.{mapped_parts, standing_over}
-use Rattle.sfm_slope.proofs.Scaled.{small_from_abs}
+use Rattle.sfm_slope.proofs.Scaled.{small_from_abs, small_within}
 use Rattle.sfm_slope.proofs.tree.+branch.Goals as goal
 
 -- half of two or more is less than all, and not nothing
@@ -21,7 +21,12 @@ behind : (found : List Breakpoint) (k : ℕ) → k ≤ length found → take (le
 behind found k le = let l = length-drop k found in take_all (length found - k) (drop k found) (omega (arith, l))
 
 pub stage_over-requires-clause-small : goal.stage_over-requires-clause-small
-stage_over-requires-clause-small g t c = small_from_abs (10 ^ 25) c.args.at.graph.bases (c.are_small.ensures.0 c.if-not-are_small.false)
+stage_over-requires-clause-small g t c =
+    small_within (10 ^ 19) (10 ^ 25) (omega arith) c.args.at.graph.bases (small_from_abs (10 ^ 19) c.args.at.graph.bases (c.are_small.ensures.0 c.if-not-are_small.false))
+
+pub copy_standing-requires-clause-small : goal.copy_standing-requires-clause-small
+copy_standing-requires-clause-small g t c =
+    small_within (10 ^ 19) (10 ^ 21) (omega arith) c.stage_over.new.at.graph.bases (small_from_abs (10 ^ 19) c.stage_over.new.at.graph.bases (c.are_small-else-found-lt-FEW_AT_LEAVES.ensures.0 c.if-not-are_small-2.false))
 
 pub branch-search-requires : goal.branch-search-requires
 branch-search-requires g t c = λ κs lives.

@@ -1,16 +1,20 @@
-use Rattle.std.proofs.Common.{◌≡◌, [], ◌∷◌, length, map, sym, ap, subst, ◌∙◌}
+use Rattle.std.proofs.Common.{◌≡◌, ◌^◌, [], ◌∷◌, length, map, sym, ap, subst, ◌∙◌}
 use Rattle.std.proofs.lemmas.List.{map-append}
 use Rattle.std.proofs.lemmas.List.Elements.{All-append, All-nil, All-cons}
 use Rattle.sfm_spec.specs.Families.{meanings}
 use Rattle.sfm_slope.specs.Marks.{HasBasesBy, mark_of}
 use Rattle.sfm_slope.specs.Points.{found_mark}
 use Rattle.sfm_slope.proofs.Reached.{mapped_behind, standing_over}
+use Rattle.sfm_slope.proofs.Scaled.{small_from_abs}
 use Rattle.sfm_slope.proofs.tree.leaves.Goals as goal
 
 pub leaf-requires-clause-standing : goal.leaf-requires-clause-standing
 leaf-requires-clause-standing g c =
     let point = c.point-item.result in
     standing_over c.requires.standing (point ∷ []) (λ P all. All-cons P point [] (subst P (sym c.point-item.is) (all c.loop-point.point-index point c.loop-point-test.true)) (All-nil P))
+
+pub leaf-requires-clause-small : goal.leaf-requires-clause-small
+leaf-requires-clause-small g c = small_from_abs (10 ^ 19) c.args.at.now.graph.bases (c.are_small.ensures.0 c.if-not-are_small.false)
 
 pub loop-point-preserved : goal.loop-point-preserved
 loop-point-preserved g c =

@@ -7,10 +7,11 @@ use Rattle.sfm_spec.specs.Walks.{IsWalkChain, few_walks}
 use Rattle.sfm_spec.proofs.LeastWalks.{few_walks_small}
 use Rattle.sfm_exchange.proofs.ClaimedGraphs.{counted, shaped}
 use Rattle.sfm_stage.proofs.Chains.{walks_join}
-use Rattle.sfm_stage.proofs.Times.{bases_multiple}
+use Rattle.sfm_exchange.specs.Scaled.{rows_times}
+use Rattle.sfm_slope.proofs.Scaled.{rows-small}
 use Rattle.sfm_slope.proofs.tree.walk_on.Given as given
 use Rattle.sfm_slope.proofs.tree.walk_on.Goals as goal
-use Rattle.sfm_slope.proofs.tree.walk_on.Goals.{After-deref}
+use Rattle.sfm_slope.proofs.tree.walk_on.Goals.{After-deref, In_ok-restart_by}
 
 -- the shift that is read is the one that was written
 written : (g : given.Over) (c : After-deref g) → c.deref.result.now ≡ sized_shift c.args.sizes.now c.args.slope.num
@@ -23,12 +24,22 @@ written g c =
 long : (g : given.Over) (c : After-deref g) → length c.deref.result.now ≡ length c.args.sizes.now
 long g c = ap length c.deref.ensures.value ∙ c.set_shift.ensures.places
 
-pub restart_by-requires-clause-bases : goal.restart_by-requires-clause-bases
-restart_by-requires-clause-bases g c =
-    let t = g.T.Term in
+-- the walks begin at multiples
+multiplied : (g : given.Over) (c : In_ok-restart_by g) → c.restart_by.new.graph.bases ≡ rows_times c.args.slope.den c.args.at.now.graph.bases
+multiplied g c =
     let s = c.args.slope in
     let fq : FitsSigned w128 s.den = omega (arith, ints, s.factor.low, s.factor.high) in
-    simp to_z-of_z (rw c.requires.multiple (bases_multiple s.den s.factor.low (meanings t.places t.value_of c.args.terms.now) c.args.at.now.graph.bases c.requires.standing.1.claimed.are_bases))
+    simp to_z-of_z at c.in_ok-restart_by.ensures.bases
+
+pub restart_by-requires-clause-small : goal.restart_by-requires-clause-small
+restart_by-requires-clause-small g c =
+    let h = c.requires.small in
+    λ k d l i e lt. let b = h k d l i e lt in record { low = omega (arith, ints, b.low); high = omega (arith, ints, b.high) }
+
+pub improve-requires-clause-small : goal.improve-requires-clause-small
+improve-requires-clause-small g c =
+    let s = c.args.slope in
+    rw (multiplied g (goal.at.improve-requires-clause-small g c).In_ok-restart_by) (rows-small s.den c.args.at.now.graph.bases s.factor c.requires.small)
 
 pub improve-requires-clause-shifts : goal.improve-requires-clause-shifts
 improve-requires-clause-shifts g c = rw c.deref.ensures.value c.set_shift.ensures.small
@@ -48,6 +59,7 @@ returns-then-at-count-clause-search g c =
     let at = (goal.at.returns-then-at-count-clause-search g c).After-deref in
     record {
       first = c.requires.search.first;
+      begins = c.requires.search.begins;
       warm = c.requires.search.warm;
       cold = rw (long g at) at (shaped c.in_ok-improve.ensures.graph);
       shift = c.set_shift.ensures.places;
@@ -59,6 +71,7 @@ returns-clause-search g c =
     let s = rw (long g at) at (shaped c.in_ok-improve.ensures.graph) in
     record {
       first = c.requires.search.first;
+      begins = c.requires.search.begins;
       warm = c.requires.search.warm;
       cold = record { are_spots = s.are_spots; sized_rows = s.sized_rows; claim_count = s.claim_count; union_count = s.union_count; back_count = s.back_count };
       shift = c.set_shift.ensures.places;
@@ -77,7 +90,8 @@ returns-clause-section g c =
     let same = written g (goal.at.returns-clause-section g c).After-deref in
     let e = c.in_ok-improve.ensures in
     let k = e.counted.0 in
-    let chain : IsWalkChain ts s.den shift k c.args.bases after = rw (same, c.in_ok-restart_by.ensures.bases) at (simp to_z-of_z at e.counted.2) in
+    let bases = rows_times s.den c.args.at.now.graph.bases in
+    let chain : IsWalkChain ts s.den shift k bases after = rw (same, multiplied g (goal.at.returns-clause-section g c).In_ok-restart_by) at (simp to_z-of_z at e.counted.2) in
     let count = e.counted.3 in
     let n = c.args.at.now.walks in
     let total : n + k ≤ few_walks (length sizes) (length c.args.terms.now) = omega (arith, count, c.count.ensures, c.new-steps.ensures, c.if-at-count.false, c.most_walks.ensures.is) in
@@ -85,5 +99,5 @@ returns-clause-section g c =
       bases = simp to_z-of_z at e.bases;
       small = e.small;
       proves = simp to_z-of_z at (rw (same, length-map sizes _) at e.proves);
-      reached = (n + k, rw (counted c.requires.standing.1.claimed) total, walks_join ts s.den shift n k firsts c.args.bases after c.requires.chain chain);
+      reached = (n + k, rw (counted c.requires.standing.1.claimed) total, walks_join ts s.den shift n k firsts bases after c.requires.chain chain);
     })

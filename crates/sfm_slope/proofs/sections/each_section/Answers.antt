@@ -4,8 +4,8 @@ use Rattle.std.proofs.lemmas.List.Elements.{All-append, All-nil, All-cons}
 use Rattle.sfm_spec.specs.Families.{meanings}
 use Rattle.sfm_slope.specs.Marks.{HasBasesBy, mark_of}
 use Rattle.sfm_slope.specs.Points.{found_mark}
-use Rattle.sfm_slope.proofs.Scaled.{mapped_more}
-use Rattle.sfm_slope.proofs.sections.sections.Goals as goal
+use Rattle.sfm_slope.proofs.Reached.{mapped_behind}
+use Rattle.sfm_slope.proofs.sections.each_section.Goals as goal
 
 pub loop-point-preserved : goal.loop-point-preserved
 loop-point-preserved g c =
@@ -15,11 +15,12 @@ loop-point-preserved g c =
     let point = c.point-item.result in
     let b = c.in_ok-section.field-0 in
     let before = c.loop-point.invariant in
+    let breaks = c.loop-point.breaks.items in
     let P = HasBasesBy (meanings t.places t.value_of c.args.terms.now) (λ q. map (λ x. t.start_of x q) c.args.terms.now) (length c.args.sizes.now) c.args.sizes.now in
     let told : mark_of b ≡ found_mark point = c.in_ok-section.ensures.mark in
     record {
       search = c.in_ok-section.ensures.search;
-      marks = rw (c.in_ok-push.ensures.items, map-append mark_of c.loop-point.breaks.items (b ∷ []))
-          (mapped_more found_mark found i point (map mark_of c.loop-point.breaks.items) (mark_of b) c.loop-point-test.true before.marks (told ∙ ap found_mark c.point-item.is));
-      bases = rw c.in_ok-push.ensures.items (All-append P c.loop-point.breaks.items (b ∷ []) before.bases (All-cons P b [] c.in_ok-section.ensures.bases (All-nil P)));
+      marks = rw (c.in_ok-push.ensures.items, map-append mark_of breaks (b ∷ []))
+          (mapped_behind found_mark found i point (map mark_of c.args.breaks.now.items) (map mark_of breaks) (mark_of b) c.loop-point-test.true before.marks (told ∙ ap found_mark c.point-item.is));
+      bases = rw c.in_ok-push.ensures.items (All-append P breaks (b ∷ []) before.bases (All-cons P b [] c.in_ok-section.ensures.bases (All-nil P)));
     }
