@@ -1,6 +1,6 @@
 // What a term of a sum is: a submodular function of a few places, with a test of bases, exchange capacities,
 // and a first base. Everything above speaks of terms by this trait alone.
-ghost use Rattle.std.specs.{Prelude.{◌≡◌, ◌↔◌, ℕ, ◌<◌, ◌^◌, Bool, List, length, map, ℤ, pos, neg_ℤ, ◌*ℤ◌, ◌≤ℤ◌, IfOk, IsOk, OnOk, IsTrue, Some}, List.{All}};
+ghost use Rattle.std.specs.{Prelude.{◌≡◌, ◌↔◌, ℕ, ◌<◌, ◌^◌, Bool, List, length, map, ℤ, pos, neg_ℤ, ◌*ℤ◌, ◌≤ℤ◌, IfOk, IfSome, IsOk, OnOk, IsTrue, Some}, List.{All}};
 ghost use Rattle.sfm_spec.specs.{Bounds.{IsEntry, IsFactor}, Rows.{Depends}, Terms.{SetFunction, times, IsBase, IsFamily, IsSubmodular, exchanged}};
 ghost use Rattle.sfm_law.specs.{Based.{IsBased, IsPair, CanSwap}, Room.{IsRoom, IsReach}};
 
@@ -158,6 +158,26 @@ pub trait Term {
             swap.now.v swap.now.a }
         ensures { OnOk result (fits self.now note.new at.now.q (exchanged at.now.x.now swap.now.u
             swap.now.v swap.now.a)) };
+
+    /// A note that fits m times a base, made of one that fits the base; or None, where none is made so and it is to be made anew
+    /// once it is wanted.
+    fn note_times(
+        &self,
+        _alloc: Global,
+        _m: i128,
+        _at: &At<'_>,
+        _note: &Self::Note,
+    ) -> Result<Option<Self::Note>, Memory>
+        requires times { IsFactor _m }
+        requires based { IsBased places value_of size_of self.now _at.now.q _at.now.x.now }
+        requires multiple { IsBased places value_of size_of self.now (_m *ℤ _at.now.q)
+            (map (λ a. _m *ℤ a) _at.now.x.now) }
+        requires noted { fits self.now _note.now _at.now.q _at.now.x.now }
+        ensures { IfOk result (λ r. IfSome r (λ n. fits self.now n (_m *ℤ _at.now.q)
+            (map (λ a. _m *ℤ a) _at.now.x.now))) }
+    {
+        Ok(None)
+    }
 
     /// The empty and the whole part are allowed, and unions and intersections of allowed parts are.
     ghost family: { (term : Self) → IsFamily (length (places term)) (value_of term) };
