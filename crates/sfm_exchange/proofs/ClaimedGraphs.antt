@@ -19,6 +19,7 @@ use Rattle.sfm_reach.specs.Based.{IsPlacedBase}
 use Rattle.sfm_reach.specs.Bits.{bit_in, blank_bits, set_at}
 use Rattle.sfm_exchange.specs.Claimed.{AreClaims, IsClaim}
 use Rattle.sfm_exchange.specs.Graph.{IsClaimed, IsShaped, IsWhole}
+use Rattle.sfm_exchange.specs.Sums.{AreSums}
 use Rattle.sfm_reach.specs.Reach.{AreNotes, IsRow, kept_fits, table_at}
 use Rattle.sfm_exchange.specs.Renewed.{AreChanges}
 use Rattle.sfm_reach.specs.Spots.{spot_at, spots_at}
@@ -157,14 +158,16 @@ module _ {X N : Type 0} {places : X → List ℕ} {value : X → SetFunction} {s
         (λ j ne. get_or-set_other graph.rows.items i j rows [] ne) (rw (places_are, here) changed) renewed (rw (places_are, here) widened)
 
     -- with another row of the term, and other rows of reach
-    pub claimed_after : (x : List ℤ) (note : Option N) (rows : List Bits) (claimed : Bits) (graph' : Graph N) → IsPlacedBase places value size term q x → kept_fits fits term note q x → length rows ≡ length (places term)
+    pub claimed_after : (x : List ℤ) (note : Option N) (rows : List Bits) (claimed : Bits) (graph' : Graph N) → AreSums (meanings places value terms) n (set graph.bases i x) graph'.sums.items
+        → IsPlacedBase places value size term q x → kept_fits fits term note q x → length rows ≡ length (places term)
         → AreClaims (places term) (times q (value term)) x claimed rows → AreUnions (set graph.rows.items i rows) graph.spots.items graph'.unions.items → AreTurned graph'.unions.items graph'.back.items
         → graph'.bases ≡ set graph.bases i x → graph'.spots.items ≡ graph.spots.items → graph'.notes.items ≡ set graph.notes.items i note → graph'.rows.items ≡ set graph.rows.items i rows → graph'.claimed.items ≡ set graph.claimed.items i claimed
         → IsClaimed places value size fits terms n q graph'
-    claimed_after x note rows claimed graph' at noted long told united turned bases_are spots_are notes_are rows_are claimed_are = record {
+    claimed_after x note rows claimed graph' added at noted long told united turned bases_are spots_are notes_are rows_are claimed_are = record {
       bounded = h.bounded;
       factor = h.factor;
       are_bases = rw bases_are (bases_set q (meanings places value terms) graph.bases i x h.are_bases li (at.based.entries ∙ ap length (sym places_are)) (rw means at.based.base));
+      are_sums = rw bases_are added;
       note_count = ap length notes_are ∙ (length-set graph.notes.items i note ∙ h.note_count);
       claim_count = ap length claimed_are ∙ (length-set graph.claimed.items i claimed ∙ h.claim_count);
       noted = rw (notes_are, bases_are) (notes_set (kept_fits fits) q terms graph.notes.items graph.bases i term note x h.note_count base_count l h.noted is noted);
@@ -191,11 +194,11 @@ module _ {X N : Type 0} {places : X → List ℕ} {value : X → SetFunction} {s
     pub asked_after : (note : Option N) (u : ℕ) (row claimed changed : Bits) (graph' : Graph N) → u < length (places term) → All IsEntry (base_at graph.bases i) → ((x : X) → pos 0 ≤ℤ size x) → kept_fits fits term note q (base_at graph.bases i)
         → IsRow (places term) (times q (value term)) (base_at graph.bases i) u row → ((e : ℕ) → e ≢ get_or (places term) u 0 → bit_in claimed e ≡ bit_in (set_at graph.claimed.items i) e) → bit_in changed (get_or (places term) u 0) ≡ 1
         → AreRenewed (set graph.rows.items i (set (table_at graph.rows.items i) u row)) graph.spots.items changed graph.unions.items graph'.unions.items → AreTurned graph'.unions.items graph'.back.items
-        → graph'.bases ≡ graph.bases → graph'.spots.items ≡ graph.spots.items → graph'.notes.items ≡ set graph.notes.items i note → graph'.rows.items ≡ set graph.rows.items i (set (table_at graph.rows.items i) u row)
+        → graph'.bases ≡ graph.bases → graph'.sums.items ≡ graph.sums.items → graph'.spots.items ≡ graph.spots.items → graph'.notes.items ≡ set graph.notes.items i note → graph'.rows.items ≡ set graph.rows.items i (set (table_at graph.rows.items i) u row)
         → graph'.claimed.items ≡ set graph.claimed.items i claimed → IsClaimed places value size fits terms n q graph'
-    asked_after note u row claimed changed graph' lu small sound noted is_row same one renewed turned bases_are spots_are notes_are rows_are claimed_are =
+    asked_after note u row claimed changed graph' lu small sound noted is_row same one renewed turned bases_are sums_are spots_are notes_are rows_are claimed_are =
         let table = table_at graph.rows.items i in
-        claimed_after (base_at graph.bases i) note (set table u row) claimed graph' (based sound small) noted (length-set table u row ∙ rows_long)
+        claimed_after (base_at graph.bases i) note (set table u row) claimed graph' (rw (set-get_or graph.bases i [], sums_are) h.are_sums) (based sound small) noted (length-set table u row ∙ rows_long)
         (claims_asked (places term) placed.distinct (times q (value term)) (base_at graph.bases i) (set_at graph.claimed.items i) claimed table u row lu (rw rows_long lu) claims_at is_row same)
         (united_anew (set table u row) changed graph'.unions.items (λ v lv none. get_or-set_other table u v row blank_bits (λ s. none (rw s one))) renewed) turned (bases_are ∙ sym (set-get_or graph.bases i [])) spots_are notes_are rows_are claimed_are
 
@@ -218,6 +221,7 @@ module _ {X N : Type 0} {places : X → List ℕ} {value : X → SetFunction} {s
     bounded = h.bounded;
     factor = h.factor;
     are_bases = h.exact.are_bases;
+    are_sums = h.exact.are_sums;
     note_count = h.exact.note_count;
     claim_count = h.exact.claim_count;
     noted = h.exact.noted;

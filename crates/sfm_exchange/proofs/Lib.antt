@@ -19,3 +19,5 @@ pub mod WholeGraphs
 pub mod Joining
 pub mod Minimisers
 pub mod Scaling
+pub mod Summing
+pub mod Notes

@@ -8,16 +8,18 @@ use Rattle.sfm_spec.specs.Walks.{term_at, base_at}
 use Rattle.sfm_exchange.specs.declared.graph.Graph.{Graph}
 use Rattle.sfm_reach.specs.Bits.{set_at}
 use Rattle.sfm_exchange.specs.Claimed.{AreClaims}
+use Rattle.sfm_exchange.specs.Sums.{AreSums}
 use Rattle.sfm_reach.specs.Spots.{AreSpots}
 use Rattle.sfm_reach.specs.Reach.{AreNotes, AreSized, IsTable, kept_fits, table_at}
 use Rattle.sfm_reach.specs.Turned.{AreTurned}
 use Rattle.sfm_reach.specs.Unions.{AreUnions}
 
--- the graph is one of q times the terms over n places: its rows are bases, the note of each that has one fits it, there is a row for each
+-- the graph is one of q times the terms over n places: its rows are bases, which add up to its sums, the note of each that has one fits it, there is a row for each
 -- place of each term, which tells the steps by the term, and a set of its claimed places for each term; the spots of each place are those of the terms, the adjacency of
 -- each place is the union of the rows of its spots, and the same is told backwards
 pub record IsGraph {X N : Type 0} (places : X → List ℕ) (value : X → SetFunction) (fits : X → N → ℤ → List ℤ → Type 0) (terms : List X) (n : ℕ) (q : ℤ) (graph : Graph N) : Type 0 where
   pub are_bases : AreBases q (meanings places value terms) graph.bases
+  pub are_sums : AreSums (meanings places value terms) n graph.bases graph.sums.items
   pub note_count : length graph.notes.items ≡ length terms
   pub claim_count : length graph.claimed.items ≡ length terms
   pub noted : AreNotes (kept_fits fits) q terms graph.notes.items graph.bases
@@ -38,6 +40,7 @@ pub record IsClaimed {X N : Type 0} (places : X → List ℕ) (value : X → Set
   pub bounded : AreBounded n (map places terms) (map size terms)
   pub factor : IsFactor q
   pub are_bases : AreBases q (meanings places value terms) graph.bases
+  pub are_sums : AreSums (meanings places value terms) n graph.bases graph.sums.items
   pub note_count : length graph.notes.items ≡ length terms
   pub claim_count : length graph.claimed.items ≡ length terms
   pub noted : AreNotes (kept_fits fits) q terms graph.notes.items graph.bases

@@ -5,6 +5,7 @@ pub mod Signs
 pub mod Hops
 pub mod Graph
 pub mod Scaled
+pub mod Sums
 pub use Rattle.sfm_reach.specs.Bits
 pub use Rattle.sfm_reach.specs.Spots
 pub use Rattle.sfm_reach.specs.Image

@@ -1,6 +1,6 @@
 // The exchange graph as one value: bases of q times some terms, and all that is read off them (Fujishige, Submodular
 // Functions and Optimization, section 4: auxiliary networks). Each term may have a note beside its base, and has for each of its
-// places a row of the ground places to which that has room. The incidence of a place of the ground is its list of spots, its
+// places a row of the ground places to which that has room. What the bases add up to is kept beside them. The incidence of a place of the ground is its list of spots, its
 // adjacency the union of the rows of these, and the same is kept turned round, for searches backwards. That all of this is
 // so is one fact, `IsGraph`, which each call over a graph asks for and gives back; along walks some rows may be claimed, and
 // the fact is `IsClaimed`.
@@ -8,6 +8,7 @@ ghost use Rattle.std.specs.{Prelude.{◌≡◌, length, map, OnOk, IfOk}, List.{
 ghost use Rattle.sfm_spec.specs.{Sets.{IsPlaced}, Bounds.{AreBounded, IsEntry, IsFactor}, Families.{meanings, AreBases}};
 ghost use Rattle.sfm_exchange.specs.Graph.{IsGraph, IsShaped};
 
+use crate::sums::sums_of;
 use sfm_base::{Memory, Rows};
 use sfm_law::Term;
 use sfm_reach::{
@@ -20,6 +21,8 @@ use std::alloc::Global;
 pub struct Graph<N> {
     /// The bases, one for each term.
     pub bases: Rows,
+    /// What the bases add up to at each place of the ground.
+    pub sums: Vec<i128>,
     /// Incidence: for each place of the ground its terms.
     pub spots: Vec<Spots>,
     /// What the kind of each term keeps beside its base, once that is wanted.
@@ -39,6 +42,7 @@ impl<N: Drop> Drop for Graph<N> {
     fn drop(self) {
         let Self {
             bases: _,
+            sums: _,
             spots: _,
             notes: _,
             rows: _,
@@ -56,6 +60,7 @@ impl<N: Drop> Graph<N> {
     {
         let Graph {
             bases,
+            sums: _,
             spots: _,
             notes: _,
             rows: _,
@@ -107,6 +112,7 @@ pub(crate) fn blank_graph<T: Term>(
     let back = blank_sets(alloc, 256)?;
     Ok(Graph {
         bases: Rows::new(alloc),
+        sums: Vec::new(alloc),
         spots,
         notes: Vec::new(alloc),
         rows,
@@ -146,6 +152,7 @@ pub fn restart<T: Term>(
     ensures graph { OnOk result (IsGraph T.places T.value_of T.fits terms.now n q graph.new) }
     ensures bases { OnOk result (graph.new.bases ≡ bases) }
 {
+    graph.sums = sums_of(alloc, terms, n, &bases)?;
     graph.bases = bases;
     graph.notes = no_notes(alloc, terms)?;
     ask_all(

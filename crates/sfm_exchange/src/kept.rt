@@ -1,9 +1,9 @@
 // The calls of a term by the note that is kept beside its base, or made now where none is, which is kept then.
-ghost use Rattle.std.specs.Prelude.{◌≡◌, length, IfOk, OnOk};
-ghost use Rattle.sfm_spec.specs.Terms.{exchanged, times};
+ghost use Rattle.std.specs.Prelude.{◌≡◌, length, ◌*ℤ◌, IfOk, OnOk};
+ghost use Rattle.sfm_spec.specs.{Bounds.{IsFactor}, Terms.{exchanged, times}};
 ghost use Rattle.sfm_law.specs.{Based.{IsBased, IsPair, CanSwap}, Room.{IsRoom}};
 ghost use Rattle.sfm_reach.specs.{Based.{IsPlacedBase}, Reach.{kept_fits}};
-ghost use Rattle.sfm_exchange.specs.Renewed.{AreClaimsBefore, AreRenewed};
+ghost use Rattle.sfm_exchange.specs.{Renewed.{AreClaimsBefore, AreRenewed}, Scaled.{row_times}};
 
 use crate::path::Hop;
 use crate::renewing::{Changes, renew_rows};
@@ -54,6 +54,28 @@ pub(crate) fn move_kept<T: Term>(
     at.term.moved(alloc, &at.base, &mut note, swap)?;
     *kept = Some(note);
     Ok(())
+}
+
+/// What is kept beside m times a base, made of what is kept beside the base; nothing where the term makes nothing of it.
+pub(crate) fn kept_times<T: Term>(
+    alloc: Global,
+    at: &Based<'_, '_, T>,
+    m: i128,
+    kept: &Option<T::Note>,
+) -> Result<Option<T::Note>, Memory>
+    requires times { IsFactor m }
+    requires based { IsBased T.places T.value_of T.size_of at.now.term.now at.now.base.q
+        at.now.base.x.now }
+    requires multiple { IsBased T.places T.value_of T.size_of at.now.term.now
+        (m *ℤ at.now.base.q) (row_times m at.now.base.x.now) }
+    requires noted { kept_fits T.fits at.now.term.now kept.now at.now.base.q at.now.base.x.now }
+    ensures { IfOk result (λ r. kept_fits T.fits at.now.term.now r (m *ℤ at.now.base.q)
+        (row_times m at.now.base.x.now)) }
+{
+    match kept {
+        Some(note) => at.term.note_times(alloc, m, &at.base, note),
+        None => Ok(None),
+    }
 }
 
 /// Brings the rows of a term up to the base that came by an exchange, as `renew_rows` does. After want of memory nothing is said of

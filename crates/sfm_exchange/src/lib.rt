@@ -13,6 +13,7 @@ mod multiples;
 mod path;
 mod renewing;
 mod signs;
+mod sums;
 
 pub use claims::{prove_walk, walked_from};
 pub use graph::{Graph, graph_at, restart};

@@ -9,6 +9,7 @@ ghost use Rattle.sfm_exchange.specs.{Graph.{IsClaimed}, Hops.{CanExchange, IsMov
 use crate::graph::Graph;
 use crate::kept::{move_kept, renew_kept, room_kept};
 use crate::path::{Hop, Path};
+use crate::sums::move_sums;
 use sfm_base::Memory;
 use sfm_law::{At, Room, Swap, Term};
 use sfm_reach::{Based, renew, widen};
@@ -78,6 +79,7 @@ fn exchange_at<T: Term>(
     requires graph { IsClaimed T.places T.value_of T.size_of T.fits terms.now
         (length graph.old.spots.items) q graph.old }
     requires inside { hop.term < length terms.now }
+    requires small { All (λ x. All IsEntry x) graph.old.bases }
     requires can { CanExchange (meanings T.places T.value_of terms.now) q graph.old.bases hop a }
     requires low { pos 1 ≤ℤ a }
     ensures moved { OnOk result (graph.new.bases ≡ slice_set graph.old.bases hop.term
@@ -97,6 +99,8 @@ fn exchange_at<T: Term>(
     };
     move_kept(alloc, &Based { term, base }, note, &swap)?;
     graph.bases.exchange(i, hop.u, hop.v, a);
+    let places = term.elements();
+    move_sums(&mut graph.sums, places[hop.u], places[hop.v], a);
     let x = graph.bases.row(i);
     let base = At { q, x };
     let at = Based { term, base };
@@ -111,7 +115,7 @@ fn exchange_at<T: Term>(
         &mut graph.back,
     );
     widen(
-        term.elements(),
+        places,
         &graph.rows[i],
         &changes.grown,
         &mut graph.unions,

@@ -1,15 +1,18 @@
 // A graph at a multiple of the bases of another one. What depends on what at a base hangs on its tight sets alone, and the
 // sets that are tight at q times a base of a term, for q times the term, are those that are tight at the base. So all rows are
-// the same, those that are only claimed as well: they are copied into the memory that stands, and no term is asked.
+// the same, those that are only claimed as well: they are copied into the memory that stands, and no term is asked. What the bases
+// add up to is multiplied with them, and so is what is kept beside them, by the terms that can.
 ghost use Rattle.std.specs.{Prelude.{◌≡◌, ◌<◌, ◌^◌, ℕ, ℤ, List, length, map, pos, ◌*ℤ◌, OnOk, IfOk}, List.{All}};
 ghost use Rattle.sfm_spec.specs.{Bounds.{IsAtMost, IsFactor}, Families.{meanings}, Walks.{base_at}};
 ghost use Rattle.sfm_exchange.specs.{Graph.{IsClaimed, IsShaped}, Scaled.{rows_times}};
 ghost use Rattle.sfm_reach.specs.{Reach.{AreNotes, AreSized, kept_fits}};
 
 use crate::graph::{Graph, blank_graph};
+use crate::kept::kept_times;
+use crate::sums::multiply;
 use sfm_base::Memory;
-use sfm_law::Term;
-use sfm_reach::{BitRows, no_notes};
+use sfm_law::{At, Term};
+use sfm_reach::{Based, BitRows};
 use std::alloc::Global;
 
 // Copies the rows of all terms.
@@ -23,32 +26,26 @@ fn copy_tables(from: &[BitRows], to: &mut Vec<BitRows>)
     }
 }
 
-// Takes over from another graph of the terms its rows, and what is read off them. No term is asked for what it keeps beside the
-// bases that stand before that is wanted.
-fn take_rows<T: Term>(
-    alloc: Global,
-    graph: &mut Graph<T::Note>,
-    terms: &[T],
-    other: &Graph<T::Note>,
-) -> Result<(), Memory>
-    requires shaped { (n : ℕ) × IsShaped T.places T.value_of terms.now n graph.old
-        × IsShaped T.places T.value_of terms.now n other.now }
-    ensures bases { OnOk result (graph.new.bases ≡ graph.old.bases) }
-    ensures spots { OnOk result (graph.new.spots.items ≡ graph.old.spots.items) }
-    ensures count { OnOk result (length graph.new.notes.items ≡ length terms.now) }
-    ensures noted { OnOk result ((q : ℤ) → AreNotes (kept_fits T.fits) q terms.now
-        graph.new.notes.items graph.old.bases) }
-    ensures rows { OnOk result (graph.new.rows.items ≡ other.now.rows.items) }
-    ensures claimed { OnOk result (graph.new.claimed.items ≡ other.now.claimed.items) }
-    ensures unions { OnOk result (graph.new.unions.items ≡ other.now.unions.items) }
-    ensures back { OnOk result (graph.new.back.items ≡ other.now.back.items) }
+// Takes over the rows of another graph, and what is read off them.
+fn take_rows<N: Drop>(graph: &mut Graph<N>, other: &Graph<N>)
+    requires sized { (places : List (List ℕ)) × AreSized places other.now.rows.items
+        × AreSized places graph.old.rows.items }
+    requires claimed { length graph.old.claimed.items ≡ length other.now.claimed.items }
+    requires unions { length graph.old.unions.items ≡ length other.now.unions.items }
+    requires back { length graph.old.back.items ≡ length other.now.back.items }
+    ensures bases { graph.new.bases ≡ graph.old.bases }
+    ensures sums { graph.new.sums ≡ graph.old.sums }
+    ensures spots { graph.new.spots ≡ graph.old.spots }
+    ensures notes { graph.new.notes ≡ graph.old.notes }
+    ensures rows { graph.new.rows.items ≡ other.now.rows.items }
+    ensures claimed { graph.new.claimed.items ≡ other.now.claimed.items }
+    ensures unions { graph.new.unions.items ≡ other.now.unions.items }
+    ensures back { graph.new.back.items ≡ other.now.back.items }
 {
-    graph.notes = no_notes(alloc, terms)?;
     copy_tables(&other.rows, &mut graph.rows);
     graph.claimed.copy_from_slice(&other.claimed);
     graph.unions.copy_from_slice(&other.unions);
     graph.back.copy_from_slice(&other.back);
-    Ok(())
 }
 
 /// A graph of q times the terms.
@@ -56,6 +53,34 @@ fn take_rows<T: Term>(
 pub struct Beside<'a, N> {
     pub graph: &'a Graph<N>,
     pub q: i128,
+}
+
+// What another graph of the terms keeps beside its bases, for m times these. Where a term makes nothing of it, that is made once it
+// is wanted.
+fn notes_times<T: Term>(
+    alloc: Global,
+    terms: &[T],
+    m: i128,
+    other: &Beside<'_, T::Note>,
+) -> Result<Vec<Option<T::Note>>, Memory>
+    requires times { IsFactor m }
+    requires factor { IsFactor (m *ℤ other.now.q) }
+    requires other { (n : ℕ) × IsClaimed T.places T.value_of T.size_of T.fits terms.now n other.now.q
+        other.now.graph.now }
+    requires small { All (λ x. All (IsAtMost (10 ^ 21)) x) other.now.graph.now.bases }
+    ensures count { IfOk result (λ r. length r.items ≡ length terms.now) }
+    ensures noted { IfOk result (λ r. AreNotes (kept_fits T.fits) (m *ℤ other.now.q) terms.now
+        r.items (rows_times m other.now.graph.now.bases)) }
+{
+    let mut notes = Vec::with_capacity(alloc, terms.len())?;
+    for (i, term) in terms.iter().enumerate() {
+        let x = other.graph.bases.row(i);
+        let base = At { q: other.q, x };
+        let at = Based { term, base };
+        let kept = &other.graph.notes[i];
+        notes.push(kept_times(alloc, &at, m, kept)?)?;
+    }
+    Ok(notes)
 }
 
 /// Makes the graph one of m times q times the terms, at m times the bases of a second graph, which is one of q times the terms and
@@ -84,7 +109,9 @@ pub fn restart_times<T: Term>(
     ensures bases { OnOk result (graph.new.bases ≡ rows_times m other.now.graph.now.bases) }
 {
     graph.bases = other.graph.bases.times(alloc, m)?;
-    take_rows(alloc, graph, terms, other.graph)?;
+    graph.sums = multiply(alloc, m, &other.graph.sums)?;
+    graph.notes = notes_times(alloc, terms, m, other)?;
+    take_rows(graph, other.graph);
     Ok(())
 }
 

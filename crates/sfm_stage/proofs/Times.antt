@@ -12,6 +12,7 @@ use Rattle.sfm_spec.proofs.Scaled.{times-add, times-mono, times-sub}
 use Rattle.sfm_spec.proofs.Walks.{terms-at, bases-at}
 use Rattle.sfm_exchange.specs.Scaled.{row_times, rows_times}
 use Rattle.sfm_exchange.proofs.Scaling.{depends_times, base-times}
+use Rattle.sfm_exchange.proofs.Summing.{number_at, part_times, sum_times}
 
 times-one : (q : ℤ) → (q *ℤ pos 1) ≡ q
 times-one q = omega (arith, ints)
@@ -32,29 +33,9 @@ module _ (q : ℤ) (low : pos 1 ≤ℤ q) where
   row_at : (rows : List (List ℤ)) (i : ℕ) → base_at (rows_times q rows) i ≡ row_times q (base_at rows i)
   row_at rows i = get_or-map (row_times q) rows i []
 
-  number_at : (x : List ℤ) (j : ℕ) → get_or (row_times q x) j (pos 0) ≡ (q *ℤ get_or x j (pos 0))
-  number_at [] j = sym (*ℤ-zero q)
-  number_at (a ∷ x) zero = refl
-  number_at (a ∷ x) (suc j) = number_at x j
-
-  -- a part that counts or does not
-  part_times : (b : Bool) (a : ℤ) → (if b then (q *ℤ a) else pos 0) ≡ (q *ℤ (if b then a else pos 0))
-  part_times true a = refl
-  part_times false a = sym (*ℤ-zero q)
-
-  -- the sum of the bases at a place
-  entry_times : (places : List ℕ) (x : List ℤ) (e : ℕ) → entry_at places (row_times q x) e ≡ (q *ℤ entry_at places x e)
-  entry_times [] x e = sym (*ℤ-zero q)
-  entry_times (p ∷ places) [] e = sym (*ℤ-zero q)
-  entry_times (p ∷ places) (a ∷ x) e = rw (part_times (nat_eq p e) a, entry_times places x e) (sym (times-add q (if nat_eq p e then a else pos 0) (entry_at places x e)))
-
-  sum_times : (terms : List Meaning) (rows : List (List ℤ)) (e : ℕ) → base_sum_at terms (rows_times q rows) e ≡ (q *ℤ base_sum_at terms rows e)
-  sum_times [] rows e = sym (*ℤ-zero q)
-  sum_times (t ∷ terms) [] e = sym (*ℤ-zero q)
-  sum_times (t ∷ terms) (x ∷ rows) e = rw (entry_times t.places x e, sum_times terms rows e) (sym (times-add q (entry_at t.places x e) (base_sum_at terms rows e)))
-
+  -- the sum of the bases at a place, less the shift
   pub rest_times : (terms : List Meaning) (rows : List (List ℤ)) (shift : List ℤ) (e : ℕ) → rest_at terms (rows_times q rows) shift e ≡ ((q *ℤ base_sum_at terms rows e) -ℤ get_or shift e (pos 0))
-  rest_times terms rows shift e = ap (λ z. z -ℤ get_or shift e (pos 0)) (sum_times terms rows e)
+  rest_times terms rows shift e = ap (λ z. z -ℤ get_or shift e (pos 0)) (sum_times q terms rows e)
 
   -- an exchange
   exchanged_times : (x : List ℤ) (u v : ℕ) (a : ℤ) → exchanged (row_times q x) u v (q *ℤ a) ≡ row_times q (exchanged x u v a)
@@ -62,8 +43,8 @@ module _ (q : ℤ) (low : pos 1 ≤ℤ q) where
       let f : ℤ → ℤ = λ b. q *ℤ b in
       let s : ℤ = get_or x u (pos 0) +ℤ a in
       let t : ℤ = get_or x v (pos 0) -ℤ a in
-      let es : (get_or (row_times q x) u (pos 0) +ℤ (q *ℤ a)) ≡ (q *ℤ s) = ap (λ z. z +ℤ (q *ℤ a)) (number_at x u) ∙ sym (times-add q (get_or x u (pos 0)) a) in
-      let et : (get_or (row_times q x) v (pos 0) -ℤ (q *ℤ a)) ≡ (q *ℤ t) = ap (λ z. z -ℤ (q *ℤ a)) (number_at x v) ∙ sym (times-sub q (get_or x v (pos 0)) a) in
+      let es : (get_or (row_times q x) u (pos 0) +ℤ (q *ℤ a)) ≡ (q *ℤ s) = ap (λ z. z +ℤ (q *ℤ a)) (number_at q x u) ∙ sym (times-add q (get_or x u (pos 0)) a) in
+      let et : (get_or (row_times q x) v (pos 0) -ℤ (q *ℤ a)) ≡ (q *ℤ t) = ap (λ z. z -ℤ (q *ℤ a)) (number_at q x v) ∙ sym (times-sub q (get_or x v (pos 0)) a) in
       ap (λ z. set (set (row_times q x) u z) v (get_or (row_times q x) v (pos 0) -ℤ (q *ℤ a))) es
       ∙ ap (λ z. set (set (row_times q x) u (q *ℤ s)) v z) et
       ∙ ap (λ y. set y v (q *ℤ t)) (sym (map-set f x u s))
@@ -129,7 +110,7 @@ module _ (q : ℤ) (low : pos 1 ≤ℤ q) where
   change_times from (s ∷ steps) i e a = rw (one (nat_eq s.term i) (nat_eq from e) (nat_eq s.to e), change_times s.to steps i e a)
       (sym (times-add q (if nat_eq s.term i then ((if nat_eq from e then a else pos 0) -ℤ (if nat_eq s.to e then a else pos 0)) else pos 0) (change_at s.to steps i e a))) where
         one : (b u v : Bool) → (if b then ((if u then (q *ℤ a) else pos 0) -ℤ (if v then (q *ℤ a) else pos 0)) else pos 0) ≡ (q *ℤ (if b then ((if u then a else pos 0) -ℤ (if v then a else pos 0)) else pos 0))
-        one true u v = rw (part_times u a, part_times v a) (sym (times-sub q (if u then a else pos 0) (if v then a else pos 0)))
+        one true u v = rw (part_times q u a, part_times q v a) (sym (times-sub q (if u then a else pos 0) (if v then a else pos 0)))
         one false u v = sym (*ℤ-zero q)
 
   pub move_times : (terms : List Meaning) (rows after : List (List ℤ)) (first : ℕ) (steps : List Step) (a : ℤ) → IsWalkMove terms rows first steps a after
@@ -148,4 +129,4 @@ module _ (q : ℤ) (low : pos 1 ≤ℤ q) where
     long rows i = ap length (row_at rows i) ∙ length-map (base_at rows i) (λ b. q *ℤ b)
 
     at : (rows : List (List ℤ)) (i j : ℕ) → get_or (base_at (rows_times q rows) i) j (pos 0) ≡ (q *ℤ get_or (base_at rows i) j (pos 0))
-    at rows i j = ap (λ y. get_or y j (pos 0)) (row_at rows i) ∙ number_at (base_at rows i) j
+    at rows i j = ap (λ y. get_or y j (pos 0)) (row_at rows i) ∙ number_at q (base_at rows i) j

@@ -8,12 +8,12 @@ ghost use Rattle.sfm_spec.specs.{Sets.{magnitudes}, Bounds.{IsAtMost, IsEntry}, 
 ghost use Rattle.sfm_walk.specs.{Counted.{IsCounted}, Labels.{AreLabels}, Run.{AreAdvanced, IsLeastWalk, IsRunAt}, Spread.{AreSpread}};
 ghost use Rattle.sfm_exchange.specs.{Graph.{IsClaimed}, Hops.{steps_of}, Levels.{depth_of}, Signs.{AreMoved, AreSigns}};
 
-use crate::rest::{most_of, move_rest};
+use crate::rest::{most_of, move_rest, rest_from};
 use crate::run::{Run, run_at};
 use crate::walk::next_walk;
 use sfm_base::{Memory, Numbers, Steps};
 use sfm_exchange::{Graph, amount_of, move_along, move_signs};
-use sfm_law::{Term, rest_of};
+use sfm_law::Term;
 use std::alloc::Global;
 
 /// Moves the bases of the graph along walks of least steps, each by the greatest amount, until no walk joins. Then they
@@ -101,7 +101,7 @@ pub fn improve_from<T: Term>(
     ensures few { steps.new ≤ steps.old + few_walks (length shift.now) (length terms.now) }
     ensures kept { steps.old ≤ steps.new }
 {
-    let z = rest_of(alloc, terms, shift, &graph.bases)?;
+    let z = rest_from(alloc, &graph.sums, shift)?;
     let mut run = run_at(alloc, z);
     while next_walk(alloc, graph, terms, q, shift, &mut run)? {
         advance(alloc, graph, terms, q, shift, &mut run)?;

@@ -135,7 +135,7 @@ returns-clause-still g c =
     let rest = rw (c.elements-places.ensures, claimed_are g at.After-index_mut-claimed) at c.remove.ensures.others in
     record {
       claimed = asked_after r.ready.claimed i r.term term c.index-terms-i.is c.row_kept.new.kept c.args.u c.in_ok-row.row c.remove.new.self c.only-changed.result _ (inside g at.After-index-terms-i) small (size_low t.places t.value_of t.size_of m.submodular m.bounded) noted told rest
-          only.has (rw (c.deref.ensures.value, c.deref-2.ensures.value, put) at c.renew.ensures.renewed) c.renew.ensures.turned refl refl refl (ap (λ z. set graph.rows.items i z) put) refl;
+          only.has (rw (c.deref.ensures.value, c.deref-2.ensures.value, put) at c.renew.ensures.renewed) c.renew.ensures.turned refl refl refl refl (ap (λ z. set graph.rows.items i z) put) refl;
       bases = refl;
     }
 

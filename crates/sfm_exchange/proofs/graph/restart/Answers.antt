@@ -33,21 +33,31 @@ returns-clause-graph g c =
     let ask = c.in_ok-ask_all.ensures in
     record {
       are_bases = c.requires.bases;
+      are_sums = c.in_ok-graph.ensures;
       note_count = ask.count;
       claim_count = omega (arith, c.fill.ensures.len, c.requires.graph.claim_count, c.args.graph.now.claimed.ok.0, c.fill.new.self.ok.0);
       noted = simp to_z-of_z at ask.noted;
       sized_rows = ask.sized;
       tables = simp to_z-of_z at ask.tables;
       are_spots = c.requires.graph.are_spots;
-      are_unions = rw (c.deref.ensures.value, c.deref-2.ensures.value) at c.in_ok-graph-2.ensures;
-      are_turned = rw c.deref-3.ensures.value at c.in_ok-graph-3.ensures;
+      are_unions = rw (c.deref.ensures.value, c.deref-2.ensures.value) at c.in_ok-graph-3.ensures;
+      are_turned = rw c.deref-3.ensures.value at c.in_ok-graph-4.ensures;
     }
 
 pub turned_of-requires : goal.turned_of-requires
-turned_of-requires g c = rw (c.deref-3.ensures.value, c.in_ok-graph-2.ensures.count, c.deref.ensures.value, c.requires.graph.are_spots.count) c.requires.bounded.few
+turned_of-requires g c = rw (c.deref-3.ensures.value, c.in_ok-graph-3.ensures.count, c.deref.ensures.value, c.requires.graph.are_spots.count) c.requires.bounded.few
 
 pub ask_all-requires-clause-count : goal.ask_all-requires-clause-count
-ask_all-requires-clause-count g c = c.in_ok-graph.ensures.count
+ask_all-requires-clause-count g c = c.in_ok-graph-2.ensures.count
 
 pub ask_all-requires-clause-noted : goal.ask_all-requires-clause-noted
-ask_all-requires-clause-noted g c = c.in_ok-graph.ensures.fit _ _
+ask_all-requires-clause-noted g c = c.in_ok-graph-2.ensures.fit _ _
+
+pub sums_of-requires-clause-bounded : goal.sums_of-requires-clause-bounded
+sums_of-requires-clause-bounded g c = c.requires.bounded
+
+pub sums_of-requires-clause-bases : goal.sums_of-requires-clause-bases
+sums_of-requires-clause-bases g c = (c.args.q, c.requires.bases)
+
+pub sums_of-requires-clause-small : goal.sums_of-requires-clause-small
+sums_of-requires-clause-small g c = c.requires.small

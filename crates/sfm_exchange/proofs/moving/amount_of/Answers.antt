@@ -120,6 +120,7 @@ loop-hop-preserved g c =
           bounded = h.bounded;
           factor = h.factor;
           are_bases = h.are_bases;
+          are_sums = h.are_sums;
           note_count = length-set graph.notes.items i note ∙ h.note_count;
           claim_count = h.claim_count;
           noted = noted_still h i l term is note fit;

@@ -1,7 +1,10 @@
-use Rattle.std.proofs.Common.{◌≡◌, ◌-◌, suc, length, get_or, subst, ◌∙◌, arith, FitsSigned}
-use Rattle.std.proofs.lemmas.Int.{to_z-of_z}
+use Rattle.std.proofs.Common.{◌≡◌, ◌-◌, ◌*◌, ◌^◌, suc, List, ℤ, length, get_or, subst, ◌∙◌, arith, FitsSigned}
+use Rattle.std.specs.List.{All}
+use Rattle.std.proofs.lemmas.Int.{ints, to_z-of_z}
 use Rattle.std.proofs.lemmas.List.{get_or_default}
+use Rattle.std.proofs.lemmas.List.Elements.{All-set}
 use mir.Syntax.{w128}
+use Rattle.sfm_spec.specs.Bounds.{IsAtMost, IsEntry}
 use Rattle.sfm_spec.specs.Families.{meanings}
 use Rattle.sfm_exchange.specs.declared.path.Hop.{Hop}
 use Rattle.sfm_exchange.specs.Hops.{CanExchange, hop_at, no_hop}
@@ -33,6 +36,10 @@ can g c =
     let r = c.requires in
     can_exchange _ _ _ (are_terms r.graph m.family m.submodular) _ _ _ _ r.low r.named r.order r.falls.0 r.falls.1 r.small r.high r.graph.are_bases (c.loop-k.k - 1) c.loop-k.graph.bases (behind g c)
 
+-- entries are small at first
+small : (rows : List (List ℤ)) → All (λ x. All (IsAtMost (5 * 10 ^ 29)) x) rows → All (λ x. All IsEntry x) rows
+small rows h k d l i e lt = let s = h k d l i e lt in record { low = omega (arith, ints, s.low); high = omega (arith, ints, s.high) }
+
 pub loop-k-init : goal.loop-k-init
 loop-k-init g c =
     let hops = c.args.path.now.hops.items in
@@ -41,10 +48,13 @@ loop-k-init g c =
     let m = g.met.T.Term in
     let fq : FitsSigned w128 c.args.q = c.ranges.q in
     let fa : FitsSigned w128 c.args.a = c.ranges.a in
-    rw count (simp to_z-of_z (have_moved_none _ _ _ (are_terms r.graph m.family m.submodular) _ _ hops _ r.low r.named r.order r.graph.are_bases, r.graph))
+    rw count (simp to_z-of_z (have_moved_none _ _ _ (are_terms r.graph m.family m.submodular) _ _ hops _ r.low r.named r.order r.graph.are_bases, r.graph, small c.args.graph.now.bases r.small))
 
 pub exchange_at-requires-clause-graph : goal.exchange_at-requires-clause-graph
 exchange_at-requires-clause-graph g c = own c.loop-k.invariant.1
+
+pub exchange_at-requires-clause-small : goal.exchange_at-requires-clause-small
+exchange_at-requires-clause-small g c = c.loop-k.invariant.2
 
 pub exchange_at-requires-clause-inside : goal.exchange_at-requires-clause-inside
 exchange_at-requires-clause-inside g c =
@@ -69,7 +79,7 @@ loop-k-preserved g c =
     let e = c.in_ok-exchange_at.ensures in
     let moved = rw (next g here c.index.result.now c.index.ensures) at (simp to_z-of_z at e.moved) in
     let more = exchange_moved _ _ _ (are_terms r.graph m.family m.submodular) _ _ _ _ r.low r.named r.order r.graph.are_bases (c.loop-k.k - 1) c.loop-k.graph.bases (behind g here) in
-    simp to_z-of_z (rw moved more, over inv.1 (simp to_z-of_z at e.graph))
+    simp to_z-of_z (rw moved more, over inv.1 (simp to_z-of_z at e.graph), rw moved (All-set (λ x. All IsEntry x) _ _ _ (can g here).after inv.2))
 
 pub returns-clause-graph : goal.returns-clause-graph
 returns-clause-graph g c = let fq : FitsSigned w128 c.args.q = c.ranges.q in simp to_z-of_z at c.loop-k.invariant.1

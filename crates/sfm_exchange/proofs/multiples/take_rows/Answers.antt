@@ -1,40 +1,23 @@
-use Rattle.std.proofs.Common.{length, map, ap, ◌∙◌, arith, refl}
+use Rattle.std.proofs.Common.{length, ap, ◌∙◌, arith, refl}
 use Rattle.sfm_exchange.proofs.multiples.take_rows.Goals as goal
 
 pub copy_tables-requires : goal.copy_tables-requires
-copy_tables-requires g c =
-    let s = c.requires.shaped in
-    (map g.T.Term.places c.args.terms.now, rw c.deref.ensures.value s.2.sized_rows, s.1.sized_rows)
+copy_tables-requires g c = let s = c.requires.sized in (s.0, rw c.deref.ensures.value s.1, s.2)
 
 pub copy_from_slice-requires : goal.copy_from_slice-requires
 copy_from_slice-requires g c =
-    let s = c.requires.shaped in
     let read = ap length c.deref-2.ensures.value in
-    omega (arith, read, s.1.claim_count, s.2.claim_count, c.args.graph.now.claimed.ok.0)
+    omega (arith, read, c.requires.claimed, c.args.graph.now.claimed.ok.0)
 
 pub copy_from_slice-requires-2 : goal.copy_from_slice-requires-2
 copy_from_slice-requires-2 g c =
-    let s = c.requires.shaped in
     let read = ap length c.deref-3.ensures.value in
-    omega (arith, read, s.1.union_count, s.2.union_count, c.args.graph.now.unions.ok.0)
+    omega (arith, read, c.requires.unions, c.args.graph.now.unions.ok.0)
 
 pub copy_from_slice-requires-3 : goal.copy_from_slice-requires-3
 copy_from_slice-requires-3 g c =
-    let s = c.requires.shaped in
     let read = ap length c.deref-4.ensures.value in
-    omega (arith, read, s.1.back_count, s.2.back_count, c.args.graph.now.back.ok.0)
-
-pub returns-clause-bases : goal.returns-clause-bases
-returns-clause-bases g c = refl
-
-pub returns-clause-spots : goal.returns-clause-spots
-returns-clause-spots g c = refl
-
-pub returns-clause-count : goal.returns-clause-count
-returns-clause-count g c = c.in_ok-graph.ensures.count
-
-pub returns-clause-noted : goal.returns-clause-noted
-returns-clause-noted g c = λ q. c.in_ok-graph.ensures.fit q _
+    omega (arith, read, c.requires.back, c.args.graph.now.back.ok.0)
 
 pub returns-clause-rows : goal.returns-clause-rows
 returns-clause-rows g c = c.copy_tables.ensures ∙ c.deref.ensures.value

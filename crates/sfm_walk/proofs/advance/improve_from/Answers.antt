@@ -1,33 +1,20 @@
-use Rattle.std.proofs.Common.{◌*◌, ◌^◌, length, ℤ, ◌-ℤ◌, ◌+ℤ◌, arith, FitsSigned}
+use Rattle.std.proofs.Common.{◌*◌, ◌<◌, ◌^◌, length, get_or, ℤ, pos, ◌-ℤ◌, ◌+ℤ◌, ap, ◌∙◌, arith, FitsSigned}
+use Rattle.std.specs.List.{All}
 use Rattle.std.proofs.lemmas.Int.{ints, to_z-of_z}
 use Rattle.std.proofs.lemmas.List.{length-map}
 use mir.Syntax.{w128}
+use Rattle.sfm_spec.specs.Bounds.{IsEntry}
 use Rattle.sfm_spec.specs.Families.{meanings, rest_at, deficit}
 use Rattle.sfm_spec.proofs.LeastWalks.{few_walks_small}
 use Rattle.sfm_spec.proofs.Proving.{prove_if_none}
-use Rattle.sfm_spec.proofs.Walks.{bases-at}
 use Rattle.sfm_walk.proofs.Counting.{IsCounting, counting_none, counting_more, counting_few, counting_is}
 use Rattle.sfm_walk.proofs.Labelling.{labels_none}
 use Rattle.sfm_walk.proofs.Improving.{IsImproving, falls, gap_still, improving_after, small_still}
 use Rattle.sfm_walk.proofs.Spreads.{bound_is}
-use Rattle.sfm_exchange.proofs.ClaimedGraphs.{are_terms, base_count, counted, low}
+use Rattle.sfm_law.specs.Rest.{IsRest}
+use Rattle.sfm_exchange.proofs.ClaimedGraphs.{are_terms, counted, low}
+use Rattle.sfm_exchange.proofs.Summing.{sums_small}
 use Rattle.sfm_walk.proofs.advance.improve_from.Goals as goal
-
-pub rest_of-requires-clause-placed : goal.rest_of-requires-clause-placed
-rest_of-requires-clause-placed g c = c.requires.graph.bounded.placed
-
-pub rest_of-requires-clause-few : goal.rest_of-requires-clause-few
-rest_of-requires-clause-few g c = c.requires.graph.bounded.few_places
-
-pub rest_of-requires-clause-rows : goal.rest_of-requires-clause-rows
-rest_of-requires-clause-rows g c = base_count c.requires.graph
-
-pub rest_of-requires-clause-entries : goal.rest_of-requires-clause-entries
-rest_of-requires-clause-entries g c =
-    let t = g.T.Term in
-    let ts = meanings t.places t.value_of c.args.terms.now in
-    let h = c.requires.graph in
-    λ i l. (bases-at c.args.q ts c.args.graph.now.bases i h.are_bases (rw (counted h) l)).0
 
 pub run_at-run-requires : goal.run_at-run-requires
 run_at-run-requires g c =
@@ -45,9 +32,15 @@ loop-run-init g c =
     let init = c.args.graph.now.bases in
     let D : ℤ = deficit (length shift) (rest_at ts init shift) in
     let z_is = c.run_at-run.ensures.z in
+    let z = c.in_ok-z.ensures in
+    let sums = rw c.deref.ensures.value at z.exact in
+    let is_rest : IsRest ts shift init c.in_ok-z.z.items = record {
+      places = z.places;
+      exact = λ e l. let le : e < length shift = rw z.places at l in sums e le ∙ ap (λ a. a -ℤ get_or shift e (pos 0)) (r.graph.are_sums.exact e le);
+    } in
     let start : IsImproving t.places t.value_of t.size_of t.fits c.args.terms.now c.args.q shift init c.args.graph.now c.run_at-run.result = record {
       whole = r.graph;
-      at = record { is_rest = rw z_is c.in_ok-z.ensures; signs = rw z_is c.run_at-run.ensures.signs };
+      at = record { is_rest = rw z_is is_rest; signs = rw z_is c.run_at-run.ensures.signs };
       gap = r.gap;
       risen = omega (arith, ints);
       spread = λ b small. bound_is init b (b +ℤ (D -ℤ D)) small (omega (arith, ints));
@@ -178,12 +171,6 @@ returns-in_err-next_walk-clause-kept g c = c.loop-run.invariant.1
 pub returns-in_err-advance-clause-kept : goal.returns-in_err-advance-clause-kept
 returns-in_err-advance-clause-kept g c = c.loop-run.invariant.1
 
-pub rest_of-requires-clause-shifts : goal.rest_of-requires-clause-shifts
-rest_of-requires-clause-shifts g c = let shifts = c.requires.shifts in omega (arith, ints, shifts)
-
-pub rest_of-requires-clause-small : goal.rest_of-requires-clause-small
-rest_of-requires-clause-small g c = λ k d l i e lt. let s = c.requires.small k d l i e lt in record { low = omega (arith, ints, s.low); high = omega (arith, ints, s.high) }
-
 pub next_walk-requires-clause-labels : goal.next_walk-requires-clause-labels
 next_walk-requires-clause-labels g c = let fq : FitsSigned w128 c.args.q = c.ranges.q in c.loop-run.invariant.4
 
@@ -191,3 +178,16 @@ pub advance-requires-clause-labels : goal.advance-requires-clause-labels
 advance-requires-clause-labels g c =
     let fq : FitsSigned w128 c.args.q = c.ranges.q in
     rw c.in_ok-next_walk.ensures.bases (c.in_ok-next_walk.ensures.labels c.if-branch.true)
+
+pub rest_from-requires-clause-same : goal.rest_from-requires-clause-same
+rest_from-requires-clause-same g c = rw c.deref.ensures.value c.requires.graph.are_sums.places
+
+pub rest_from-requires-clause-small : goal.rest_from-requires-clause-small
+rest_from-requires-clause-small g c =
+    let t = g.T.Term in
+    let h = c.requires.graph in
+    let small : All (λ x. All IsEntry x) c.args.graph.now.bases = λ k d l i e lt. let s = c.requires.small k d l i e lt in record { low = omega (arith, ints, s.low); high = omega (arith, ints, s.high) } in
+    rw c.deref.ensures.value (sums_small t.places t.value_of c.args.terms.now (length c.args.shift.now) c.args.graph.now.bases c.args.graph.now.sums.items h.are_sums small h.bounded.few_places)
+
+pub rest_from-requires-clause-shifts : goal.rest_from-requires-clause-shifts
+rest_from-requires-clause-shifts g c = let shifts = c.requires.shifts in omega (arith, ints, shifts)
