@@ -1,5 +1,6 @@
 pub mod Deficits
 pub mod Orders
+pub mod Listings
 pub mod Classes
 pub mod Groups
 pub mod Weights

@@ -57,6 +57,16 @@ pub record AreFirstsTo (rows : List (List Bool)) (w e : ℕ) (firsts : List ℕ)
   pub complete : (d : ℕ) → d < length rows → IsFirstPlace rows d → Before (pulled rows d) d w e → (i : ℕ) × (i < length firsts) × (slice_index firsts i ≡ d)
   pub ordered : (i j : ℕ) → i < j → j < length firsts → Before (pulled rows (slice_index firsts i)) (slice_index firsts i) (pulled rows (slice_index firsts j)) (slice_index firsts j)
 
+-- the first places before e, ascending, with their counts, which are all below a number
+pub record AreListed (rows : List (List Bool)) (e : ℕ) (places counts : List ℕ) (above : ℕ) : Type 0 where
+  pub same : length counts ≡ length places
+  pub inside : (i : ℕ) → i < length places → slice_index places i < e
+  pub first : (i : ℕ) → i < length places → IsFirstPlace rows (slice_index places i)
+  pub counted : (i : ℕ) → i < length places → slice_index counts i ≡ pulled rows (slice_index places i)
+  pub below : (i : ℕ) → i < length places → slice_index counts i < above
+  pub complete : (d : ℕ) → d < e → IsFirstPlace rows d → (i : ℕ) × (i < length places) × (slice_index places i ≡ d)
+  pub ordered : (i j : ℕ) → i < j → j < length places → slice_index places i < slice_index places j
+
 -- in order, all first places
 pub record AreFirsts (rows : List (List Bool)) (firsts : List ℕ) : Type 0 where
   pub inside : (i : ℕ) → i < length firsts → slice_index firsts i < length rows

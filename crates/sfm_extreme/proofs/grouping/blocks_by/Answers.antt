@@ -5,11 +5,8 @@ use Rattle.sfm_extreme.specs.Pulls.{AreBlocksBy, AreFirsts, AreGrouped}
 use Rattle.sfm_extreme.proofs.Tellings.{square_of}
 use Rattle.sfm_extreme.proofs.grouping.blocks_by.Goals as goal
 
-pub firsts_in_order-requires-clause-square : goal.firsts_in_order-requires-clause-square
-firsts_in_order-requires-clause-square c = rw c.deref.ensures.value (square_of c.in_ok-rows.ensures)
-
-pub firsts_in_order-requires-clause-few : goal.firsts_in_order-requires-clause-few
-firsts_in_order-requires-clause-few c = rw (c.deref.ensures.value, c.in_ok-rows.ensures.count) c.requires.few
+pub firsts_in_order-requires : goal.firsts_in_order-requires
+firsts_in_order-requires c = record { square = rw c.deref.ensures.value (square_of c.in_ok-rows.ensures) }
 
 pub grouped-requires-clause-square : goal.grouped-requires-clause-square
 grouped-requires-clause-square c = rw c.deref-2.ensures.value (square_of c.in_ok-rows.ensures)
