@@ -4,7 +4,7 @@
 // where they come to it. The amounts for other demands are found beside those that stand and then put in their place, so that want
 // of memory leaves these as they were. All this is done in memory that is kept with the split and used again, so that none is
 // taken once there is enough.
-ghost use Rattle.std.specs.{Prelude.{◌≡◌, ◌↔◌, ℕ, ◌<◌, ◌≤◌, true, false, length, slice_set, pos, ◌+ℤ◌, ◌≤ℤ◌, ◌<ℤ◌, IsTrue, IfOk, OnOk, OnErr, MatchResult, MatchBool, None, []}, List.{All}};
+ghost use Rattle.std.specs.{Prelude.{◌≡◌, ◌↔◌, ℕ, ◌<◌, ◌≤◌, true, false, length, map, slice_set, pos, ◌*ℤ◌, ◌+ℤ◌, ◌≤ℤ◌, ◌<ℤ◌, IsTrue, IfOk, OnOk, OnErr, MatchResult, MatchBool, None, []}, List.{All}};
 ghost use Rattle.sfm_spec.specs.Sets.{Has};
 ghost use Rattle.sfm_split.specs.{Splits.{amount_at, CanBeMet, IsAmount, IsCapacity, AreDemands}, Cells.{AreMet}, Search.{AreLeft}, Ends.{IsAssignEnd}, Grown.{IsGrown}, Lenders.{IsLender, with_more, IsMostUpto}};
 ghost use Rattle.sfm_assign.specs.Spread.{answer_at, AreAnswers, AreAsking, LeadsToRoom, AreLedTo};
@@ -203,6 +203,28 @@ impl Kept {
     {
         let demand = self.demand.copy(alloc)?;
         let shares = self.shares.copy(alloc)?;
+        Kept::around(alloc, demand, shares)
+    }
+
+    /// A split of m times the demands over slots that hold m times as much: each amount is m times what it was. Nothing is remembered
+    /// of it.
+    ///
+    /// # Errors
+    ///
+    /// `Memory` where there is none.
+    pub fn times(&self, alloc: Global, m: i128) -> Result<Kept, Memory>
+        requires low { pos 1 ≤ℤ m }
+        requires amounts { All IsAmount (map (λ a. m *ℤ a) self.now.demand.demands) }
+        requires bounded { All IsCapacity (map (λ a. m *ℤ a) self.now.demand.capacities) }
+        ensures { IfOk result (λ r. r.demand ≡ record {
+          demands = map (λ a. m *ℤ a) self.now.demand.demands;
+          lists = self.now.demand.lists;
+          capacities = map (λ a. m *ℤ a) self.now.demand.capacities;
+        }) }
+    {
+        let _sound = self.demand.demands();
+        let demand = self.demand.times(alloc, m)?;
+        let shares = self.shares.times(alloc, m)?;
         Kept::around(alloc, demand, shares)
     }
 

@@ -18,3 +18,4 @@ pub mod Lowering
 pub mod Filling
 pub mod Lending
 pub mod Loans
+pub mod Scaling

@@ -1,7 +1,8 @@
 // Demands in the order in which they come, each with the list of the slots that it may use, and the capacities of the slots.
-ghost use Rattle.std.specs.{Prelude.{◌≡◌, ◌<◌, ◌≤◌, ◌^◌, [], ◌∷◌, ◌++◌, length, is_ok, slice_set, ◌+ℤ◌, IfOk, if◌then◌else◌}, List.{All}};
+ghost use Rattle.std.specs.{Prelude.{◌≡◌, ◌<◌, ◌≤◌, ◌^◌, [], ◌∷◌, ◌++◌, length, map, is_ok, slice_set, ◌+ℤ◌, ◌*ℤ◌, IfOk, if◌then◌else◌}, List.{All}};
 ghost use Rattle.sfm_split.specs.Splits.{amount_at, IsAmount, IsCapacity, AreDemands};
 
+use crate::multiples::list_times;
 use sfm_base::{Lists, Memory};
 use std::alloc::Global;
 use std::marker::Model;
@@ -107,6 +108,27 @@ impl Demand {
             demands: Vec::from_slice(alloc, &self.demands)?,
             lists: self.lists.copy(alloc)?,
             capacities: Vec::from_slice(alloc, &self.capacities)?,
+        })
+    }
+
+    /// Demands that are m times these over the same lists, with capacities that are m times these.
+    ///
+    /// # Errors
+    ///
+    /// `Memory` where there is none.
+    pub fn times(&self, alloc: Global, m: i128) -> Result<Demand, Memory>
+        requires amounts { All IsAmount (map (λ a. m *ℤ a) self.now.demands) }
+        requires bounded { All IsCapacity (map (λ a. m *ℤ a) self.now.capacities) }
+        ensures { IfOk result (λ r. r ≡ record {
+          demands = map (λ a. m *ℤ a) self.now.demands;
+          lists = self.now.lists;
+          capacities = map (λ a. m *ℤ a) self.now.capacities;
+        }) }
+    {
+        Ok(Demand {
+            demands: list_times(alloc, m, &self.demands)?,
+            lists: self.lists.copy(alloc)?,
+            capacities: list_times(alloc, m, &self.capacities)?,
         })
     }
 

@@ -11,6 +11,7 @@ mod fill;
 mod grown;
 mod left;
 mod lower;
+mod multiples;
 mod nodes;
 mod pour;
 mod search;

@@ -1,12 +1,13 @@
 // A split of all demands, or a set of them that asks for more than its slots have. The amounts on the cells are raised as far as
 // they go; where a demand still lacks something, those that were found ask for too much.
-ghost use Rattle.std.specs.Prelude.{◌≡◌, IfOk, MatchResult};
-ghost use Rattle.sfm_split.specs.{Splits.{AreDemands, IsAssignment}, Cells.{joined, owners, IsPart, AreMet}, Search.{ListsLacking}, Pours.{AreWithin, AreRaised, IsToldOf}, Ends.{IsAssignEnd}};
+ghost use Rattle.std.specs.{Prelude.{◌≡◌, ◌*ℤ◌, map, IfOk, MatchResult}, List.{All}};
+ghost use Rattle.sfm_split.specs.{Splits.{AreDemands, IsAmount, IsAssignment}, Cells.{joined, owners, IsPart, AreMet}, Search.{ListsLacking}, Pours.{AreWithin, AreRaised, IsToldOf}, Ends.{IsAssignEnd}};
 
 use crate::cells::Cells;
 use crate::demand::Demand;
 use crate::fill::fill_from;
 use crate::left::{Lefts, lefts_of};
+use crate::multiples::list_times;
 use crate::nodes::found_set;
 use crate::pour::pour;
 use crate::split::Split;
@@ -54,6 +55,23 @@ impl Shares {
         Ok(Shares {
             cells: self.cells.copy(alloc)?,
             y: Vec::from_slice(alloc, &self.y)?,
+        })
+    }
+
+    /// The same cells, with m times the amount on each.
+    ///
+    /// # Errors
+    ///
+    /// `Memory` where there is none.
+    pub fn times(&self, alloc: Global, m: i128) -> Result<Shares, Memory>
+        requires { All IsAmount (map (λ a. m *ℤ a) self.now.y.items) }
+        ensures whos { IfOk result (λ r. r.cells.whos.items ≡ self.now.cells.whos.items) }
+        ensures slots { IfOk result (λ r. r.cells.slots.items ≡ self.now.cells.slots.items) }
+        ensures amounts { IfOk result (λ r. r.y.items ≡ map (λ a. m *ℤ a) self.now.y.items) }
+    {
+        Ok(Shares {
+            cells: self.cells.copy(alloc)?,
+            y: list_times(alloc, m, &self.y)?,
         })
     }
 }

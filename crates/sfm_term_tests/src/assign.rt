@@ -591,3 +591,43 @@ fn row_answers_with_a_copy(rt: &impl Abort, alloc: Global) -> bool {
 fn a_copy_is_brought_to_other_demands(rt: HostRuntime) {
     assert!(rt; row_answers_with_a_copy(&rt, rt.alloc()));
 }
+
+/// Demands of 2 over both slots, which hold 3 and 2, and of 1 over the first.
+fn two_asked(alloc: Global) -> Result<Demand, Memory>
+    ensures amounts { IfOk result (λ r. r.demands ≡ pos 2 ∷ pos 1 ∷ []) }
+    ensures slots { IfOk result (λ r. r.capacities ≡ pos 3 ∷ pos 2 ∷ []) }
+{
+    let mut demand = Demand::new(alloc, &[3, 2])?;
+    demand.push(2, &[0, 1])?;
+    demand.push(1, &[0])?;
+    Ok(demand)
+}
+
+/// The split of these, and a split of three times as much, made of it.
+fn three_times(alloc: Global) -> Result<Kept, AssignEnd>
+    ensures amounts { IfOk result (λ r. r.demand.demands ≡ pos 6 ∷ pos 3 ∷ []) }
+    ensures slots { IfOk result (λ r. r.demand.capacities ≡ pos 9 ∷ pos 6 ∷ []) }
+{
+    let demand = two_asked(alloc)?;
+    let kept = Kept::new(alloc, demand)?;
+    let three = kept.times(alloc, 3)?;
+    Ok(three)
+}
+
+/// Whether a split has these demands and capacities.
+fn asks_for(kept: &Kept, amounts: &[i128], capacities: &[i128]) -> bool {
+    kept.demand.demands() == amounts && kept.demand.capacities() == capacities
+}
+
+/// Whether each demand and each capacity is three times as much, and the second demand can get what the first slot has left.
+fn has_three_times_the_room(alloc: Global) -> bool {
+    match three_times(alloc) {
+        Ok(mut kept) => { asks_for(&kept, &[6, 3], &[9, 6]) && kept.grow(alloc, 1, 100) == Ok(6) }
+        Err(_) => false,
+    }
+}
+
+#[test]
+fn a_split_times_three_has_three_times_the_room(rt: HostRuntime) {
+    assert!(rt; has_three_times_the_room(rt.alloc()));
+}
