@@ -2,8 +2,8 @@
 // by cases over the kinds (specs/Kinds.antt), so a kind that is added brings one case to each law, and one to the macro by
 // which the calls pass on. The plain kinds keep nothing beside a base: what is asked by a note is asked of them as without
 // one.
-ghost use Rattle.std.specs.Prelude.{◌≡◌, Bool, List, length, ℤ, IfOk};
-ghost use Rattle.sfm_spec.specs.Terms.{SetFunction};
+ghost use Rattle.std.specs.Prelude.{◌≡◌, Bool, List, length, map, ℤ, ◌*ℤ◌, IfOk, IfSome};
+ghost use Rattle.sfm_spec.specs.{Bounds.{IsFactor}, Terms.{SetFunction}};
 ghost use Rattle.sfm_law.specs.Based.{IsBased};
 ghost use Rattle.sfm_kind.specs.{Meanings.{kind_places, IsValueOf, IsMeaningOf, size_by, IsStartOf}, Kinds.{kind_value, kind_size, kind_start, kind_lean_value, kind_lean_calls, kind_fits, kind-family, kind-submodular, kind-bounded, kind-starts, kind-starts_small, kind-starts_times}};
 
@@ -75,6 +75,9 @@ impl Drop for KindNote {
     }
 }
 
+/// For how many places a split is copied and multiplied at the least.
+const FEWEST: usize = 32;
+
 /// A note that fits a base, on the heap. This stands apart, since a function pays as it begins for the room of all that it
 /// holds, and a large note would make each small one dear.
 #[inline(never)]
@@ -84,6 +87,30 @@ fn boxed_note<T: Term>(alloc: Global, term: &T, at: &At<'_>) -> Result<Box<T::No
 {
     let note = term.note(alloc, at)?;
     Ok(Box::new(alloc, note)?)
+}
+
+/// A note that fits m times a base, on the heap, made of one that fits the base; None where none is made so. It stands apart as
+/// the one above does.
+#[inline(never)]
+fn boxed_times<T: Term>(
+    alloc: Global,
+    term: &T,
+    m: i128,
+    at: &At<'_>,
+    note: &T::Note,
+) -> Result<Option<Box<T::Note>>, Memory>
+    requires times { IsFactor m }
+    requires based { IsBased T.places T.value_of T.size_of term.now at.now.q at.now.x.now }
+    requires multiple { IsBased T.places T.value_of T.size_of term.now (m *ℤ at.now.q)
+        (map (λ a. m *ℤ a) at.now.x.now) }
+    requires noted { T.fits term.now note.now at.now.q at.now.x.now }
+    ensures { IfOk result (λ r. IfSome r (λ n. T.fits term.now n.value (m *ℤ at.now.q)
+        (map (λ a. m *ℤ a) at.now.x.now))) }
+{
+    match term.note_times(alloc, m, at, note)? {
+        Some(made) => Ok(Some(Box::new(alloc, made)?)),
+        None => Ok(None),
+    }
 }
 
 impl Kind {
@@ -279,5 +306,34 @@ impl Term for Kind {
         swap: &Swap,
     ) -> Result<(), Memory> {
         by_note!(self, note, term => term.moved(alloc, at, note, swap), _ => Ok(()))
+    }
+
+    /// By the splits of some size alone: what other kinds keep is soon made anew, and so is a small split, if a walk goes by its
+    /// term at all.
+    fn note_times(
+        &self,
+        alloc: Global,
+        m: i128,
+        at: &At<'_>,
+        note: &KindNote,
+    ) -> Result<Option<KindNote>, Memory> {
+        if at.x.len() < FEWEST {
+            return Ok(None);
+        }
+        match (self, note) {
+            (Kind::Graphic(term), KindNote::Graphic(split)) => {
+                match boxed_times(alloc, term, m, at, split)? {
+                    Some(made) => Ok(Some(KindNote::Graphic(made))),
+                    None => Ok(None),
+                }
+            }
+            (Kind::Transversal(term), KindNote::Transversal(split)) => {
+                match boxed_times(alloc, term, m, at, split)? {
+                    Some(made) => Ok(Some(KindNote::Transversal(made))),
+                    None => Ok(None),
+                }
+            }
+            _ => Ok(None),
+        }
     }
 }

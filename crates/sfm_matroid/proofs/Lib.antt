@@ -20,5 +20,6 @@ mod Labels
 mod CutForms
 mod Numbers
 mod SlotForms
+mod Multiples
 mod KeptPlaces
 pub mod Restricted

@@ -1,10 +1,10 @@
 -- What is kept beside a base: a split of it in a test.
-use Rattle.std.specs.Prelude.{◌≡◌, ℕ, ◌<◌, ◌≤◌, ◌^◌, List, length, replicate, ℤ, pos, ◌*ℤ◌, ◌≤ℤ◌, Option, Some, None}
+use Rattle.std.specs.Prelude.{◌≡◌, ℕ, ◌<◌, ◌≤◌, ◌^◌, List, length, map, replicate, ℤ, pos, ◌*ℤ◌, ◌≤ℤ◌, Option, Some, None}
 use Rattle.std.specs.List.{All}
 use Rattle.sfm_spec.specs.Bounds.{IsFactor}
 use Rattle.sfm_spec.specs.Kinds.{Edge}
 use Rattle.sfm_spec.specs.Terms.{IsBase, times}
-use Rattle.sfm_assign.specs.Splits.{CanBeMet, Demands, IsAmount}
+use Rattle.sfm_assign.specs.Splits.{CanBeMet, Demands, IsAmount, IsCapacity}
 use Rattle.sfm_assign.specs.declared.kept.Kept.{Kept}
 use Rattle.sfm_matroid.specs.Amounts.{IsBeside}
 use Rattle.sfm_matroid.specs.Graphs.{graphic_value}
@@ -20,6 +20,16 @@ end_demands edges m c x a = record { demands = x; lists = end_lists edges; capac
 -- elements as demands that are split over the slots of their entries, where each of m slots holds c
 abbrev pub slot_demands : List (List ℕ) → ℕ → ℤ → List ℤ → Demands
 slot_demands entries m c x = record { demands = x; lists = entries; capacities = replicate m c }
+
+-- m times as much for each demand, over slots that hold m times as much
+abbrev pub demands_times : ℤ → Demands → Demands
+demands_times m d = record { demands = map (λ a. m *ℤ a) d.demands; lists = d.lists; capacities = map (λ a. m *ℤ a) d.capacities }
+
+-- demands whose numbers are within the bounds m times too
+pub record CanMultiply (m : ℤ) (d : Demands) : Type 0 where
+  pub low : pos 1 ≤ℤ m
+  pub amounts : All IsAmount (map (λ a. m *ℤ a) d.demands)
+  pub bounded : All IsCapacity (map (λ a. m *ℤ a) d.capacities)
 
 -- amounts for the elements of a few entries that list some of m slots, and a number c that each slot holds
 pub record AreSlotAmounts (entries : List (List ℕ)) (m : ℕ) (c : ℤ) (x : List ℤ) : Type 0 where

@@ -374,4 +374,16 @@ impl Term for Graphic {
         let root = self.end_near(note.root, swap.u);
         self.bring(alloc, &At { q: at.q, x: &after }, note, root)
     }
+
+    /// The split that is kept, m times, with the same root.
+    fn note_times(
+        &self,
+        alloc: Global,
+        m: i128,
+        _at: &At<'_>,
+        note: &RootSplit,
+    ) -> Result<Option<RootSplit>, Memory> {
+        let times = note.times(alloc, m)?;
+        Ok(Some(times))
+    }
 }

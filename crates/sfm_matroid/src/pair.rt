@@ -3,7 +3,7 @@
 // memory.
 ghost use Rattle.std.specs.Prelude.{◌≡◌, IfOk, OnOk, Some};
 ghost use Rattle.sfm_assign.specs.{Lenders.{IsMostUpto}, declared.kept.Kept.{Kept}};
-ghost use Rattle.sfm_matroid.specs.{Amounts.{IsRaise, IsBeside, CanHold, rest_of}, Notes.{AreBeside}};
+ghost use Rattle.sfm_matroid.specs.{Amounts.{IsRaise, IsBeside, CanHold, rest_of}, Notes.{AreBeside, CanMultiply, demands_times}};
 
 use crate::room::{Pull, raise};
 use sfm_assign::Kept;
@@ -39,6 +39,20 @@ fn fill(alloc: Global, kept: &Kept, spare: &mut Option<Kept>) -> Result<(), Memo
 }
 
 impl SplitPair {
+    /// The split that is kept m times, with no spare one.
+    ///
+    /// # Errors
+    ///
+    /// `Memory` where there is none.
+    pub(crate) fn times(&self, alloc: Global, m: i128) -> Result<SplitPair, Memory>
+        requires { CanMultiply m self.now.kept.demand }
+        ensures kept { IfOk result (λ r. r.kept.demand ≡ demands_times m self.now.kept.demand) }
+        ensures spare { IfOk result (λ r. AreBeside r) }
+    {
+        let kept = self.kept.times(alloc, m)?;
+        Ok(SplitPair { kept, spare: None })
+    }
+
     /// Keeps the spare split, if there is one, in place of the one that is kept, which is the spare one then.
     pub(crate) fn swap(&mut self)
         requires { AreBeside self.old }

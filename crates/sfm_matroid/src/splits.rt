@@ -2,7 +2,7 @@
 // A room leaves a spare one near the exchange that may come, and an exchange brings that one up, or else the one that is kept.
 ghost use Rattle.std.specs.{Prelude.{◌≡◌, ◌↔◌, length, replicate, IfOk, IsTrue, OnOk}, List.{All}};
 ghost use Rattle.sfm_assign.specs.Splits.{IsAmount, IsCapacity, CanBeMet};
-ghost use Rattle.sfm_matroid.specs.Notes.{AreSlotAmounts, IsSlotSplit, IsSplitOrNone};
+ghost use Rattle.sfm_matroid.specs.Notes.{AreBeside, AreSlotAmounts, CanMultiply, IsSlotSplit, IsSplitOrNone, demands_times};
 
 use crate::entries::Entries;
 use crate::matching::slot_demand;
@@ -24,6 +24,25 @@ impl Drop for SlotSplit {
             pair: _,
             capacities: _,
         } = self;
+    }
+}
+
+impl SlotSplit {
+    /// The split m times, over slots that hold m times as much, with no spare one.
+    ///
+    /// # Errors
+    ///
+    /// `Memory` where there is none.
+    pub(crate) fn times(&self, alloc: Global, m: i128) -> Result<SlotSplit, Memory>
+        requires { CanMultiply m self.now.pair.kept.demand }
+        ensures kept { IfOk result (λ r. r.pair.kept.demand
+            ≡ demands_times m self.now.pair.kept.demand) }
+        ensures spare { IfOk result (λ r. AreBeside r.pair) }
+        ensures holds { IfOk result (λ r. r.capacities.items ≡ r.pair.kept.demand.capacities) }
+    {
+        let pair = self.pair.times(alloc, m)?;
+        let capacities = Vec::from_slice(alloc, pair.kept.demand.capacities())?;
+        Ok(SlotSplit { pair, capacities })
     }
 }
 

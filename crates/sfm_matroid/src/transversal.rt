@@ -267,4 +267,16 @@ impl Term for Transversal {
         note.pair.swap();
         bring_split(alloc, &mut note.pair.kept, &after, &note.capacities)
     }
+
+    /// The split that is kept, m times.
+    fn note_times(
+        &self,
+        alloc: Global,
+        m: i128,
+        _at: &At<'_>,
+        note: &SlotSplit,
+    ) -> Result<Option<SlotSplit>, Memory> {
+        let times = note.times(alloc, m)?;
+        Ok(Some(times))
+    }
 }

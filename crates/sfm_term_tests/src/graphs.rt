@@ -1,7 +1,9 @@
 // Ranks of graphic matroids, worked by hand: loops, edges side by side, a path, a triangle, and a square whose edges come in an
 // order that joins two labels; and terms whose vertices have numbers with gaps between them.
 use crate::facts::{ONE_OF_TWO, has_facts};
+use crate::trial::multiplies;
 use sfm_kind::Kind;
+use sfm_law::At;
 use sfm_matroid::Graphic;
 use std::alloc::Global;
 
@@ -109,4 +111,21 @@ fn edges_by_their_ends(rt: HostRuntime) {
     for (w, ends, lines) in &EDGES {
         assert!(rt; has_edges(rt.alloc(), *w, ends, lines));
     }
+}
+
+/// Whether a note of a triangle at a base is one at three times the base too.
+fn triangle_multiplies(alloc: Global) -> bool {
+    let at = At {
+        q: 2,
+        x: &[3, 1, 4],
+    };
+    match graph_of(alloc, 2, &[(3, 9), (9, 5), (5, 3)]) {
+        Some(term) => multiplies(alloc, &term, &at, 1, 0),
+        None => false,
+    }
+}
+
+#[test]
+fn edges_three_times(rt: HostRuntime) {
+    assert!(rt; triangle_multiplies(rt.alloc()));
 }

@@ -3,7 +3,9 @@
 ghost use Rattle.std.specs.{Prelude.{◌↔◌, ◌<◌, ◌^◌, IsTrue}, List.{All}};
 
 use crate::facts::{ONE_OF_TWO, has_facts};
+use crate::trial::multiplies;
 use sfm_kind::Kind;
+use sfm_law::At;
 use sfm_matroid::{Entries, Transversal};
 use std::alloc::Global;
 
@@ -164,4 +166,21 @@ fn entries_by_their_slots(rt: HostRuntime) {
     for (w, lists, lines) in &ENTRIES {
         assert!(rt; has_entries(rt.alloc(), *w, lists, lines));
     }
+}
+
+/// Whether a note of entries at a base is one at three times the base too.
+fn entries_multiply(alloc: Global) -> bool {
+    let at = At { q: 2, x: &[3, 1] };
+    let Some(entries) = entries_of(alloc, &[&[7], &[7]]) else {
+        return false;
+    };
+    match slots_of(alloc, 2, entries) {
+        Some(term) => multiplies(alloc, &term, &at, 1, 0),
+        None => false,
+    }
+}
+
+#[test]
+fn slots_three_times(rt: HostRuntime) {
+    assert!(rt; entries_multiply(rt.alloc()));
 }

@@ -1,13 +1,13 @@
 // What a term is asked for in a test: its values, its first base, the rooms and the reach of places at a base, and that notes tell
 // the same, at the base and after an exchange. Each is asked by a function that answers yes or no, and no where memory lacks. Parts
 // are told by their numbers, place j counting 2^j.
-ghost use Rattle.std.specs.{Prelude.{◌≡◌, ◌↔◌, ◌<◌, ◌^◌, ◌≤ℤ◌, length, pos, IsTrue, IfOk, IfSome}, List.{All}};
-ghost use Rattle.sfm_spec.specs.{Bounds.{IsEntry, IsFactor}, Terms.{times, exchanged}};
+ghost use Rattle.std.specs.{Prelude.{◌≡◌, ◌↔◌, ◌<◌, ◌^◌, ◌*ℤ◌, ◌≤ℤ◌, ◌∷◌, [], length, map, pos, IsTrue, IfOk, IfSome}, List.{All}};
+ghost use Rattle.sfm_spec.specs.{Bounds.{IsAtMost, IsEntry, IsFactor}, Terms.{times, exchanged}};
 ghost use Rattle.sfm_law.specs.Based.{IsBased, IsPair, CanSwap};
 ghost use Rattle.sfm_term_tests.specs.Fit.{IsFit};
 
 use crate::numbers::{NO, count_at};
-use sfm_base::{Memory, Set};
+use sfm_base::{Memory, Rows, Set};
 use sfm_law::{At, Lead, Room, Swap, Term, exchange};
 use std::alloc::Global;
 
@@ -309,6 +309,81 @@ fn is_told_room<T: Term>(
     is_base(alloc, term, at)
         && tells_at(alloc, term, at, u, v)
         && is_room(alloc, term, at, u, v, number)
+}
+
+const MOST_MULTIPLIED: i128 = 1_000_000_000_000_000_000_000;
+
+/// Whether each number can be multiplied.
+fn are_small(x: &[i128]) -> bool
+    ensures { IsTrue result ↔ All (IsAtMost (10 ^ 21)) x.now }
+{
+    x.iter()
+        .all(|a| -MOST_MULTIPLIED <= *a && *a <= MOST_MULTIPLIED)
+}
+
+/// A row that has three times each number.
+fn thrice(alloc: Global, x: &[i128]) -> Result<Rows, Memory>
+    requires { All (IsAtMost (10 ^ 21)) x.now }
+    ensures { IfOk result (λ r. r ≡ map (λ a. pos 3 *ℤ a) x.now ∷ []) }
+{
+    let mut rows = Rows::new(alloc);
+    rows.push(x)?;
+    rows.times(alloc, 3)
+}
+
+/// Whether a note is made of a new one for three times a base, and tells the row of u and the room of (u, v) there.
+fn tells_next<T: Term>(
+    alloc: Global,
+    term: &T,
+    at: &At<'_>,
+    next: &At<'_>,
+    u: usize,
+    v: usize,
+) -> bool
+    requires based { IsBased T.places T.value_of T.size_of term.now at.now.q at.now.x.now }
+    requires multiple { IsBased T.places T.value_of T.size_of term.now next.now.q next.now.x.now }
+    requires factor { next.now.q ≡ (pos 3 *ℤ at.now.q) }
+    requires entries { next.now.x.now ≡ map (λ a. pos 3 *ℤ a) at.now.x.now }
+    requires pair { IsPair u v next.now.x.now }
+{
+    let Ok(note) = term.note(alloc, at) else {
+        return false;
+    };
+    match term.note_times(alloc, 3, at, &note) {
+        Ok(Some(mut made)) => tells(alloc, term, next, &mut made, u, v),
+        _ => false,
+    }
+}
+
+/// Whether three times a base is a base, and a note that is made for it of one at the base tells the row of u and the room of (u, v).
+fn tells_thrice<T: Term>(alloc: Global, term: &T, at: &At<'_>, u: usize, v: usize) -> bool
+    requires based { IsBased T.places T.value_of T.size_of term.now at.now.q at.now.x.now }
+    requires small { All (IsAtMost (10 ^ 21)) at.now.x.now }
+    requires pair { IsPair u v at.now.x.now }
+{
+    let Ok(rows) = thrice(alloc, at.x) else {
+        return false;
+    };
+    let next = At {
+        q: 3 * at.q,
+        x: rows.row(0),
+    };
+    is_base(alloc, term, &next) && tells_next(alloc, term, at, &next, u, v)
+}
+
+/// Whether a vector is a base of q times a term, and a note that is made of one there tells at three times the base the row of u and
+/// the room of (u, v).
+pub(crate) fn multiplies<T: Term>(
+    alloc: Global,
+    term: &T,
+    at: &At<'_>,
+    u: usize,
+    v: usize,
+) -> bool {
+    if u == v || u >= at.x.len() || v >= at.x.len() {
+        return false;
+    }
+    is_base(alloc, term, at) && are_small(at.x) && tells_thrice(alloc, term, at, u, v)
 }
 
 /// The place of that number among k.
