@@ -5,16 +5,8 @@ use Rattle.sfm_cert.proofs.width.digits_of.Given as goal
 
 abbrev pub invariant-loop-rest : goal.invariant-loop-rest
 invariant-loop-rest l = record {
-  digits : length (decimal l.n) + 1 ≡ length (decimal l.rest) + l.count;
+  digits : length (decimal l.n) ≡ length (decimal l.rest) + l.count;
 }
 
 abbrev pub decreases-loop-rest : goal.decreases-loop-rest
 decreases-loop-rest l = l.rest
-
-abbrev pub invariant-loop-low : goal.invariant-loop-low
-invariant-loop-low l = record {
-  digits : length (decimal l.n) + 1 ≡ length (decimal l.low) + l.count;
-}
-
-abbrev pub decreases-loop-low : goal.decreases-loop-low
-decreases-loop-low l = l.low
