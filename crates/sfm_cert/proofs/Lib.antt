@@ -22,3 +22,4 @@ pub mod Pieces
 pub mod Lengths
 pub mod InstanceLengths
 mod Widths
+mod DigitTexts

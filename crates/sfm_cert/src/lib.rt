@@ -3,6 +3,7 @@
 #![tactic(auto)]
 
 mod cursor;
+mod digits;
 mod head;
 mod header;
 mod lines;

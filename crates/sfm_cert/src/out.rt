@@ -4,6 +4,7 @@
 ghost use Rattle.std.specs.{Prelude.{◌≡◌, ◌-◌, ◌^◌, List, [], ◌∷◌, ◌++◌, ℕ, length}, Fmt.{signed_decimal}};
 ghost use Rattle.sfm_cert.specs.Pages.{after_page, page_nothing, page_joined, left_nothing, left_joined};
 
+use crate::digits::{put_byte_upto, put_few};
 use crate::width::width;
 use itoa::Buffer;
 use sfm_base::Page;
@@ -89,13 +90,28 @@ fn put_upto(page: &mut Page, piece: &[u8])
     page.put(&piece[..count]);
 }
 
-/// Puts a byte at the end of a page, where there is room for it.
-#[inline(always)]
-fn put_byte_upto(page: &mut Page, byte: u8)
-    ensures { page.new ≡ after_page page.old (byte ∷ []) }
+/// Puts the text of a number, as much of it as there is room for.
+#[inline(never)]
+fn put_many(page: &mut Page, a: i128)
+    ensures { page.new ≡ after_page page.old (signed_decimal a) }
 {
-    if page.spare() > 0 {
-        page.put_byte(byte);
+    let mut buffer = Buffer::new();
+    put_upto(page, buffer.format(a).as_bytes());
+}
+
+/// Puts the text of a number, as much of it as there is room for. Most numbers are small.
+#[inline(always)]
+fn put_signed_upto(page: &mut Page, a: i128)
+    ensures { page.new ≡ after_page page.old (signed_decimal a) }
+{
+    let size = a.unsigned_abs();
+    if size < 1_000 {
+        if a < 0 {
+            put_byte_upto(page, b'-');
+        }
+        put_few(page, size as u16);
+    } else {
+        put_many(page, a);
     }
 }
 
@@ -111,8 +127,7 @@ impl Out for Page {
     }
 
     fn put_signed(&mut self, a: i128) {
-        let mut buffer = Buffer::new();
-        put_upto(self, buffer.format(a).as_bytes());
+        put_signed_upto(self, a);
     }
 
     ghost nothing = { page_nothing };

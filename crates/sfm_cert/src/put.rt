@@ -6,7 +6,6 @@ ghost use Rattle.sfm_cert.specs.{Answer.{listed, slope_text, at_line, block_line
 
 use crate::out::Out;
 use crate::spot::Spot;
-use itoa::Buffer;
 use sfm_base::{Rows, Set, Slope};
 use sfm_extreme::Block;
 use sfm_kind::Instance;
@@ -43,8 +42,7 @@ pub fn put_number<O: Out>(out: &mut O, a: i128)
 fn put_count<O: Out>(out: &mut O, n: usize)
     ensures { out.new ≡ O.after out.old (decimal n) }
 {
-    let mut buffer = Buffer::new();
-    out.put(buffer.format(n).as_bytes());
+    out.put_signed(n as i128);
 }
 
 /// A space and the text of a number.
