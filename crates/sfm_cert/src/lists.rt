@@ -7,7 +7,9 @@ ghost use Rattle.sfm_extreme.specs.Blocks.{block_of};
 ghost use Rattle.sfm_cert.specs.{Answer.{listed}, Lists.{IsStop, IsListCut}, Lines.{IsValueLine, IsSetLine, IsBlockLine, IsSlopeLine, IsRowLine, ratio_of_head, Ratio}, Spots.{spot_label}};
 
 use crate::head::Head;
-use crate::numbers::{behind, needs_of, numbers_of, read_entry, slope_of, split_token};
+use crate::numbers::{
+    behind, needs_of, numbers_into, numbers_of, read_entry, slope_of, split_token,
+};
 use crate::spot::Spot;
 use itoa::Buffer;
 use sfm_base::{Memory, Set};
@@ -198,24 +200,25 @@ pub fn row_of(
     Ok(Some(numbers))
 }
 
-/// The numbers of a line of this word and the label of a term, of which there are `width`, or None where the line is none.
-pub fn labelled_of(
-    alloc: Global,
+/// Reads the numbers of a line of this word and the label of a term, of which there are `width`, in place of those of a list,
+/// or None where the line is none.
+pub fn labelled_into(
+    numbers: &mut Vec<i128>,
     word: &[u8],
     spot: Spot,
     width: usize,
     line: &[u8],
-) -> Result<Option<Vec<i128>>, Memory>
+) -> Result<Option<()>, Memory>
     requires { spot.before + 1 < 18446744073709551616 }
     ensures { IfOk result (λ r. MatchOption r
         ((x : List ℤ) → IsRowLine word.now (spot_label spot) width line.now x → ⊥)
-        (λ x. IsRowLine word.now (spot_label spot) width line.now x.items)) }
+        (λ _. IsRowLine word.now (spot_label spot) width line.now numbers.new.items)) }
 {
     let Some(bytes) = behind_spot(line, word, spot) else {
         return Ok(None);
     };
-    let Some(numbers) = numbers_of(alloc, bytes, width)? else {
+    let Some(()) = numbers_into(numbers, bytes, width)? else {
         return Ok(None);
     };
-    Ok(Some(numbers))
+    Ok(Some(()))
 }

@@ -55,6 +55,24 @@ pub fn numbers_of(alloc: Global, bytes: &[u8], count: usize) -> Result<Option<Ve
         (λ x. (length x.items ≡ count) × All IsEntry x.items × (bytes.now ≡ numbered x.items))) }
 {
     let mut numbers = Vec::new(alloc);
+    let Some(()) = numbers_into(&mut numbers, bytes, count)? else {
+        return Ok(None);
+    };
+    Ok(Some(numbers))
+}
+
+/// Reads so many numbers, each behind a space, in place of those of a list, where the bytes are nothing else.
+pub fn numbers_into(
+    numbers: &mut Vec<i128>,
+    bytes: &[u8],
+    count: usize,
+) -> Result<Option<()>, Memory>
+    ensures { IfOk result (λ r. MatchOption r
+        ((x : List ℤ) → length x ≡ count → All IsEntry x → bytes.now ≡ numbered x → ⊥)
+        (λ _. (length numbers.new.items ≡ count) × All IsEntry numbers.new.items
+        × (bytes.now ≡ numbered numbers.new.items))) }
+{
+    numbers.clear();
     let mut rest = bytes;
     for _ in 0..count {
         let Some((a, more)) = split_entry(rest) else {
@@ -66,7 +84,7 @@ pub fn numbers_of(alloc: Global, bytes: &[u8], count: usize) -> Result<Option<Ve
     if !rest.is_empty() {
         return Ok(None);
     }
-    Ok(Some(numbers))
+    Ok(Some(()))
 }
 
 /// Numbers from 1 to `most`, ascending, each behind a space, where the bytes are nothing else.

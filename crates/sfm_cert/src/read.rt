@@ -65,7 +65,7 @@ fn read_heads(
     Ok(heads)
 }
 
-/// A base line for each term.
+/// A base line for each term. All lines are read into one list, from which the rows are copied.
 fn read_rows(
     alloc: Global,
     instance: &Instance,
@@ -82,8 +82,9 @@ fn read_rows(
     let lines = instance.lines();
     let mut spot = Spot::first(lines);
     let mut rows = Rows::new(alloc);
+    let mut numbers = Vec::new(alloc);
     for term in instance.terms() {
-        let numbers = read_base(alloc, text, cursor, spot, term.elements().len())?;
+        read_base(&mut numbers, text, cursor, spot, term.elements().len())?;
         rows.push(&numbers)?;
         spot = spot.next(lines);
     }

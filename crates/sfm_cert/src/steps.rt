@@ -7,7 +7,7 @@ ghost use Rattle.sfm_cert.specs.{Answer.{at_line}, Lines.{IsValueLine, IsSetLine
 
 use crate::cursor::Cursor;
 use crate::head::Head;
-use crate::lists::{block_of_line, head_of_line, labelled_of, row_of, set_of, value_of};
+use crate::lists::{block_of_line, head_of_line, labelled_into, row_of, set_of, value_of};
 use crate::next::{expect, take_line};
 use crate::put::put_at;
 use crate::solved::AnswerEnd;
@@ -169,32 +169,54 @@ pub fn read_labelled(
     ensures stuck { IfErr result (EndsStuck text.now cursor.old
         (λ line. (x : List ℤ) × IsRowLine word.now (spot_label spot) width line x)) }
 {
+    let mut numbers = Vec::new(alloc);
+    read_into(&mut numbers, text, cursor, word, spot, width)?;
+    Ok(numbers)
+}
+
+/// Reads the numbers of a line of this word and the label of a term in place of those of a list, so that line after line is
+/// read into one list. Behind an error nothing is known of that list.
+fn read_into(
+    numbers: &mut Vec<i128>,
+    text: &[u8],
+    cursor: &mut Cursor,
+    word: &[u8],
+    spot: Spot,
+    width: usize,
+) -> Result<(), AnswerEnd>
+    requires within { cursor.old.at ≤ length text.now }
+    requires few { spot.before + 1 < 18446744073709551616 }
+    ensures read { IfOk result (λ _. TakesSome text.now cursor.old cursor.new
+        (λ line. IsRowLine word.now (spot_label spot) width line numbers.new.items)) }
+    ensures stuck { IfErr result (EndsStuck text.now cursor.old
+        (λ line. (x : List ℤ) × IsRowLine word.now (spot_label spot) width line x)) }
+{
     let end = AnswerEnd::BadLine { line: cursor.line };
     let Some(line) = take_line(text, cursor) else {
         return Err(end);
     };
-    let Some(numbers) = labelled_of(alloc, word, spot, width, line)? else {
+    let Some(()) = labelled_into(numbers, word, spot, width, line)? else {
         return Err(end);
     };
-    Ok(numbers)
+    Ok(())
 }
 
-/// The numbers of the line of the base of a term, of which there are `width`.
+/// Reads the numbers of the line of the base of a term, of which there are `width`, in place of those of a list.
 pub fn read_base(
-    alloc: Global,
+    numbers: &mut Vec<i128>,
     text: &[u8],
     cursor: &mut Cursor,
     spot: Spot,
     width: usize,
-) -> Result<Vec<i128>, AnswerEnd>
+) -> Result<(), AnswerEnd>
     requires within { cursor.old.at ≤ length text.now }
     requires few { spot.before + 1 < 18446744073709551616 }
-    ensures read { IfOk result (λ x. TakesSome text.now cursor.old cursor.new
-        (λ line. IsBaseLine (spot_label spot) width line x.items)) }
+    ensures read { IfOk result (λ _. TakesSome text.now cursor.old cursor.new
+        (λ line. IsBaseLine (spot_label spot) width line numbers.new.items)) }
     ensures stuck { IfErr result (EndsStuck text.now cursor.old
         (λ line. (x : List ℤ) × IsBaseLine (spot_label spot) width line x)) }
 {
-    read_labelled(alloc, text, cursor, b"base ", spot, width)
+    read_into(numbers, text, cursor, b"base ", spot, width)
 }
 
 /// Reads the line that tells a slope.

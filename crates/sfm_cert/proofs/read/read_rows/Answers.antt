@@ -48,13 +48,13 @@ read_base-requires-clause-few c =
 pub next-spot-requires : goal.next-spot-requires
 next-spot-requires c = rw c.lines-lines.ensures.lines (before (goal.at.next-spot-requires c).After-elements)
 
-pub returns-in_err-numbers-clause-stopped : goal.returns-in_err-numbers-clause-stopped
-returns-in_err-numbers-clause-stopped c =
-    let d = (goal.at.returns-in_err-numbers-clause-stopped c).After-elements in
+pub returns-in_err-read_base-clause-stopped : goal.returns-in_err-read_base-clause-stopped
+returns-in_err-read_base-clause-stopped c =
+    let d = (goal.at.returns-in_err-read_base-clause-stopped c).After-elements in
     let width = length c.elements.result.now in
-    rows_stop (form_of c.args.instance.now) c.args.text.now c.from_residual.result c.args.cursor.now c.loop-term.cursor c.loop-term.term-index width c.loop-term.rows c.in_err-numbers.field-0.0
+    rows_stop (form_of c.args.instance.now) c.args.text.now c.from_residual.result c.args.cursor.now c.loop-term.cursor c.loop-term.term-index width c.loop-term.rows c.in_err-read_base.field-0.0
     c.from_residual.ensures.1 (due d) c.loop-term.invariant.0
-    (subst (λ (l : List ℕ). EndsStuck c.args.text.now c.loop-term.cursor (λ line. (x : List ℤ) × IsBaseLine l width line x) c.in_err-numbers.field-0.0) (sym (label d)) c.in_err-numbers.ensures.stuck)
+    (subst (λ (l : List ℕ). EndsStuck c.args.text.now c.loop-term.cursor (λ line. (x : List ℤ) × IsBaseLine l width line x) c.in_err-read_base.field-0.0) (sym (label d)) c.in_err-read_base.ensures.stuck)
 
 pub loop-term-preserved : goal.loop-term-preserved
 loop-term-preserved c =
@@ -63,8 +63,8 @@ loop-term-preserved c =
     let text = c.args.text.now in
     let width = length c.elements.result.now in (
       subst (λ (rows : List (List ℤ)). RowsSoFar form text c.args.cursor.now c.read_base.new.cursor (c.loop-term.term-index + 1) rows) (sym (rw c.deref.ensures.value at c.in_ok-push.ensures))
-          (rows_more form text c.args.cursor.now c.loop-term.cursor c.read_base.new.cursor c.loop-term.term-index width c.loop-term.rows c.in_ok-numbers.numbers.items (due d) c.loop-term.invariant.0
-          (subst (λ (l : List ℕ). TakesSome text c.loop-term.cursor c.read_base.new.cursor (λ line. IsBaseLine l width line c.in_ok-numbers.numbers.items)) (sym (label d)) c.in_ok-numbers.ensures.read)),
+          (rows_more form text c.args.cursor.now c.loop-term.cursor c.read_base.new.cursor c.loop-term.term-index width c.loop-term.rows c.read_base.new.numbers.items (due d) c.loop-term.invariant.0
+          (subst (λ (l : List ℕ). TakesSome text c.loop-term.cursor c.read_base.new.cursor (λ line. IsBaseLine l width line c.read_base.new.numbers.items)) (sym (label d)) c.in_ok-read_base.ensures.read)),
       rw (← c.lines-lines.ensures.lines) (c.next-spot.ensures c.loop-term.term-index (rw c.lines-lines.ensures.lines c.loop-term.invariant.1) (rw c.lines-lines.ensures.lines (labelled d))),
     )
 

@@ -4,10 +4,10 @@ use mir.Syntax.{w128}
 use Rattle.sfm_cert.proofs.AnswerLines.{entry_fits}
 use Rattle.std.proofs.lemmas.List.{length_push}
 use Rattle.sfm_cert.proofs.Needs.{NumbersSoFar, numbers_begin, numbers_more, numbers_none, numbers_left, numbers_end, not_empty, is_empty_nil}
-use Rattle.sfm_cert.proofs.numbers.numbers_of.Goals as goal
+use Rattle.sfm_cert.proofs.numbers.numbers_into.Goals as goal
 
 pub loop-init : goal.loop-init
-loop-init c = (rw c.new-numbers.ensures.items (numbers_begin c.args.count c.args.bytes.now), rw c.new-numbers.ensures.items)
+loop-init c = (rw c.clear.ensures.items (numbers_begin c.args.count c.args.bytes.now), rw c.clear.ensures.items)
 
 pub returns-in_default : goal.returns-in_default
 returns-in_default c =
