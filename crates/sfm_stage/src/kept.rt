@@ -1,13 +1,13 @@
 // What a stage keeps beside the graph: the sum of the bases at each place less either shift, with the signs, and the lists of a
 // search. Where no walk leads on from a place below, none is to begin there any more, and what is kept there is 0.
-ghost use Rattle.std.specs.{Prelude.{◌≡◌, ◌≢◌, ◌<◌, ◌≤◌, ◌^◌, ℕ, List, map, sum, pos, neg_ℤ, ◌<ℤ◌, ◌≤ℤ◌, length, slice_index_or, slice_set, IfOk}, List.{All}};
-ghost use Rattle.sfm_spec.specs.{Sets.{IsPlaced, magnitudes}, Bounds.{IsEntry}, Families.{meanings}, Terms.{exchanged}, Walks.{base_at, term_at, last_of}};
-ghost use Rattle.sfm_exchange.specs.{Hops.{steps_of}, Levels.{IsFirst}, Signs.{AreMoved, AreSigns}};
+ghost use Rattle.std.specs.{Prelude.{◌≡◌, ◌≢◌, ◌<◌, ◌≤◌, ◌^◌, ℕ, List, ℤ, pos, neg_ℤ, ◌<ℤ◌, ◌≤ℤ◌, length, slice_index_or, slice_set, IfOk}, List.{All}};
+ghost use Rattle.sfm_spec.specs.{Sets.{magnitudes}, Bounds.{IsAtMost}, Families.{Meaning}, Terms.{exchanged}, Walks.{last_of}};
+ghost use Rattle.sfm_exchange.specs.{Hops.{steps_of}, Levels.{IsFirst}, Signs.{AreMoved, AreSigns}, Sums.{AreSums}};
 ghost use Rattle.sfm_stage.specs.{Aims.{AreAims}, Kept.{IsKept}};
 
-use sfm_base::{Memory, Rows};
+use sfm_base::Memory;
 use sfm_exchange::{Bits, Path, Signs, move_signs, signs_of};
-use sfm_law::{Term, rest_of};
+use sfm_walk::rest_from;
 use std::alloc::Global;
 
 /// What is left at each place, and the walk that was found last.
@@ -29,33 +29,23 @@ pub struct Kept {
     pub path: Path,
 }
 
-/// What is left at bases, before any search.
+/// What is left at bases that add up to the sums, before any search.
 ///
 /// # Errors
 ///
 /// `Memory` where there is none.
-pub fn kept_at<T: Term>(
-    alloc: Global,
-    terms: &[T],
-    low: &[i128],
-    high: &[i128],
-    bases: &Rows,
-) -> Result<Kept, Memory>
+pub fn kept_at(alloc: Global, sums: &[i128], low: &[i128], high: &[i128]) -> Result<Kept, Memory>
     requires few { length low.now ≤ 256 }
     requires same { length high.now ≡ length low.now }
-    requires placed { All (IsPlaced (length low.now)) (map T.places terms.now) }
-    requires places { sum (map length (map T.places terms.now)) ≤ 16384 }
-    requires rows { length bases.now ≡ length terms.now }
-    requires entries { (i : ℕ) → i < length terms.now → length (base_at bases.now i)
-        ≡ length (term_at (meanings T.places T.value_of terms.now) i).places }
-    requires small { All (λ x. All IsEntry x) bases.now }
+    requires places { length sums.now ≡ length low.now }
+    requires small { All (IsAtMost (10 ^ 35)) sums.now }
     requires low { magnitudes low.now ≤ℤ pos (10 ^ 36) }
     requires high { magnitudes high.now ≤ℤ pos (10 ^ 36) }
-    ensures { IfOk result (IsKept (meanings T.places T.value_of terms.now) low.now high.now
-        bases.now) }
+    ensures { IfOk result (λ r. (terms : List Meaning) (bases : List (List ℤ))
+        → AreSums terms (length low.now) bases sums.now → IsKept terms low.now high.now bases r) }
 {
-    let lower = rest_of(alloc, terms, low, bases)?;
-    let higher = rest_of(alloc, terms, high, bases)?;
+    let lower = rest_from(alloc, sums, low)?;
+    let higher = rest_from(alloc, sums, high)?;
     let below = signs_of(&lower);
     let above = signs_of(&higher);
     Ok(Kept {

@@ -47,7 +47,7 @@ pub fn run_stage<T: Term>(
     ensures served { IfOk result (λ t. AreServed (meanings T.places T.value_of terms.now)
         low.now high.now t graph.old.bases graph.new.bases) }
 {
-    let mut kept = kept_at(alloc, terms, low, high, &graph.bases)?;
+    let mut kept = kept_at(alloc, &graph.sums, low, high)?;
     let looks = most.min(MOST_LOOKS);
     let mut walks = 0;
     for _ in 0..looks {

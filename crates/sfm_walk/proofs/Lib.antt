@@ -3,6 +3,7 @@ pub mod Gaps
 pub mod Spreads
 pub mod Improving
 pub mod Starting
+pub mod Resting
 pub mod Counting
 pub mod Augmenting
 pub mod Marking

@@ -1,8 +1,10 @@
-use Rattle.std.proofs.Common.{◌≡◌, ◌+◌, ◌^◌, ◌≤◌, pos, subst, arith}
+use Rattle.std.proofs.Common.{◌≡◌, ◌+◌, ◌^◌, ◌≤◌, pos, length, subst, arith}
+use Rattle.std.specs.List.{All}
 use Rattle.std.specs.Prelude.{unwrap_or}
+use Rattle.std.proofs.lemmas.Int.{ints}
+use Rattle.sfm_spec.specs.Bounds.{IsEntry}
 use Rattle.sfm_spec.specs.Families.{meanings}
-use Rattle.sfm_spec.proofs.Walks.{bases-at}
-use Rattle.sfm_exchange.proofs.ClaimedGraphs.{base_count, counted}
+use Rattle.sfm_exchange.proofs.Summing.{sums_small}
 use Rattle.sfm_stage.specs.Served.{AreServed, IsServing}
 use Rattle.sfm_stage.proofs.Chains.{serving_join, serving_none, small_still, unwrap_none}
 use Rattle.sfm_stage.proofs.stage.run_stage.Given as given
@@ -15,19 +17,20 @@ serving g c =
     let t = g.T.Term in
     serving_join (meanings t.places t.value_of c.args.terms.now) c.args.low.now c.args.high.now c.loop.walks (unwrap_or c.in_ok-more.field-0 0) c.args.graph.now.bases c.loop.graph.bases c.look.new.graph.bases c.loop.invariant.2 c.in_ok-more.ensures.serving
 
-pub kept_at-requires-clause-rows : goal.kept_at-requires-clause-rows
-kept_at-requires-clause-rows g c = base_count c.requires.graph
+pub kept_at-requires-clause-places : goal.kept_at-requires-clause-places
+kept_at-requires-clause-places g c = rw c.deref.ensures.value c.requires.graph.are_sums.places
 
-pub kept_at-requires-clause-entries : goal.kept_at-requires-clause-entries
-kept_at-requires-clause-entries g c =
+pub kept_at-requires-clause-small : goal.kept_at-requires-clause-small
+kept_at-requires-clause-small g c =
     let t = g.T.Term in
     let h = c.requires.graph in
-    λ i l. (bases-at (pos 1) (meanings t.places t.value_of c.args.terms.now) c.args.graph.now.bases i h.are_bases (rw (counted h) l)).0
+    let small : All (λ x. All IsEntry x) c.args.graph.now.bases = λ k d l i e lt. let s = c.requires.small k d l i e lt in record { low = omega (arith, ints, s.low); high = omega (arith, ints, s.high) } in
+    rw c.deref.ensures.value (sums_small t.places t.value_of c.args.terms.now (length c.args.low.now) c.args.graph.now.bases c.args.graph.now.sums.items h.are_sums small h.bounded.few_places)
 
 pub loop-init : goal.loop-init
 loop-init g c =
     let t = g.T.Term in
-    (c.requires.graph, c.in_ok-kept.ensures, serving_none (meanings t.places t.value_of c.args.terms.now) c.args.low.now c.args.high.now c.args.graph.now.bases, omega arith)
+    (c.requires.graph, c.in_ok-kept.ensures (meanings t.places t.value_of c.args.terms.now) c.args.graph.now.bases (rw c.deref.ensures.value c.requires.graph.are_sums), serving_none (meanings t.places t.value_of c.args.terms.now) c.args.low.now c.args.high.now c.args.graph.now.bases, omega arith)
 
 pub look-requires-clause-graph : goal.look-requires-clause-graph
 look-requires-clause-graph g c = c.loop.invariant.0

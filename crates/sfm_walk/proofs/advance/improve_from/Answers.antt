@@ -1,4 +1,4 @@
-use Rattle.std.proofs.Common.{◌*◌, ◌<◌, ◌^◌, length, get_or, ℤ, pos, ◌-ℤ◌, ◌+ℤ◌, ap, ◌∙◌, arith, FitsSigned}
+use Rattle.std.proofs.Common.{◌*◌, ◌^◌, length, ℤ, ◌-ℤ◌, ◌+ℤ◌, arith, FitsSigned}
 use Rattle.std.specs.List.{All}
 use Rattle.std.proofs.lemmas.Int.{ints, to_z-of_z}
 use Rattle.std.proofs.lemmas.List.{length-map}
@@ -10,6 +10,7 @@ use Rattle.sfm_spec.proofs.Proving.{prove_if_none}
 use Rattle.sfm_walk.proofs.Counting.{IsCounting, counting_none, counting_more, counting_few, counting_is}
 use Rattle.sfm_walk.proofs.Labelling.{labels_none}
 use Rattle.sfm_walk.proofs.Improving.{IsImproving, falls, gap_still, improving_after, small_still}
+use Rattle.sfm_walk.proofs.Resting.{rest_is}
 use Rattle.sfm_walk.proofs.Spreads.{bound_is}
 use Rattle.sfm_law.specs.Rest.{IsRest}
 use Rattle.sfm_exchange.proofs.ClaimedGraphs.{are_terms, counted, low}
@@ -33,11 +34,7 @@ loop-run-init g c =
     let D : ℤ = deficit (length shift) (rest_at ts init shift) in
     let z_is = c.run_at-run.ensures.z in
     let z = c.in_ok-z.ensures in
-    let sums = rw c.deref.ensures.value at z.exact in
-    let is_rest : IsRest ts shift init c.in_ok-z.z.items = record {
-      places = z.places;
-      exact = λ e l. let le : e < length shift = rw z.places at l in sums e le ∙ ap (λ a. a -ℤ get_or shift e (pos 0)) (r.graph.are_sums.exact e le);
-    } in
+    let is_rest : IsRest ts shift init c.in_ok-z.z.items = rest_is r.graph.are_sums z.places (rw c.deref.ensures.value at z.exact) in
     let start : IsImproving t.places t.value_of t.size_of t.fits c.args.terms.now c.args.q shift init c.args.graph.now c.run_at-run.result = record {
       whole = r.graph;
       at = record { is_rest = rw z_is is_rest; signs = rw z_is c.run_at-run.ensures.signs };
