@@ -1,5 +1,5 @@
 // From an instance to the bytes of its answer: bases that prove the minimum are found by walks of exchanges, what they tell is
-// read off them, and all slopes are sought, each with its bases. Elements have sizes, by which the slopes go; the minimum does
+// read off them, and all slopes are sought, each with its bases, by the graphs that the minimum was found with. Elements have sizes, by which the slopes go; the minimum does
 // not depend on them. To solve an instance is to weigh it where each element counts one.
 ghost use Rattle.std.specs.Prelude.{◌≡◌, IfOk, IfErr, length};
 ghost use Rattle.sfm_spec.specs.Laws.{ones};
@@ -13,9 +13,8 @@ use sfm_cert::{Header, Solved, write_with};
 use sfm_extreme::{Minimisers, Proved, read_minimisers};
 use sfm_kind::Instance;
 use sfm_sizes::ones;
-use sfm_slope::partition_by;
+use sfm_slope::{Search, partition_with};
 use sfm_text::{TextEnd, read_instance};
-use sfm_walk::minimise;
 use std::alloc::{AllocError, Global};
 
 /// The answer of an instance where each element has its size, with bases that prove it.
@@ -29,9 +28,10 @@ pub fn solve_by(alloc: Global, instance: &Instance, sizes: &[i128]) -> Result<So
 {
     let terms = instance.terms();
     let n = instance.names_len();
-    let optimum = minimise(alloc, terms, n, 0, 1)?;
-    let found = read_minimisers(alloc, terms, n, &optimum.bases)?;
-    let breaks = partition_by(alloc, terms, n, sizes)?;
+    let mut search = Search::new(alloc, terms, n)?;
+    let bases = search.optimum(terms)?;
+    let found = read_minimisers(alloc, terms, n, &bases)?;
+    let breaks = partition_with(&mut search, terms, sizes)?;
     let Minimisers { proved, blocks } = found;
     let Proved {
         value,
@@ -43,7 +43,7 @@ pub fn solve_by(alloc: Global, instance: &Instance, sizes: &[i128]) -> Result<So
         least,
         greatest,
         blocks,
-        bases: optimum.bases,
+        bases,
         breaks,
     })
 }

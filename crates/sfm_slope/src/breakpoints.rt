@@ -2,10 +2,10 @@
 // that the one before ended at. Then the bases of each breakpoint, from the first bases. The sets come from the one, what
 // proves from the other, and both speak of the same slope: so neither has to be compared with the other. Where each element
 // counts one, the same is told of n in place of sizes.
-ghost use Rattle.std.specs.{Prelude.{map, IfOk}, List.{All}};
+ghost use Rattle.std.specs.{Prelude.{length, map, IfOk}, List.{All}};
 ghost use Rattle.sfm_spec.specs.{Bounds.{AreBounded}, Families.{meanings}, Laws.{AreBreakpoints, ones}};
 ghost use Rattle.sfm_sizes.specs.Sizes.{AreElementSizes};
-ghost use Rattle.sfm_slope.specs.Marks.{HasBases, HasBasesBy, mark_of};
+ghost use Rattle.sfm_slope.specs.{Marks.{HasBases, HasBasesBy, mark_of}, Searches.{IsSearch}};
 
 use crate::chain::chain;
 use crate::search::Search;
@@ -56,7 +56,29 @@ pub fn partition_by<T: Term>(
         (λ q. map (λ term. T.start_of term q) terms.now) n sizes.now) r.items) }
 {
     let mut search = Search::new(alloc, terms, n)?;
-    let found = chain(&mut search, terms, sizes)?;
-    let breaks = sections(&mut search, terms, sizes, &found)?;
+    let breaks = partition_with(&mut search, terms, sizes)?;
+    Ok(breaks)
+}
+
+/// The same over the ground of a search, by its graphs: no term is asked for a first base, nor for its rows there.
+///
+/// # Errors
+///
+/// `Memory` where there is none.
+pub fn partition_with<T: Term>(
+    search: &mut Search<T::Note>,
+    terms: &[T],
+    sizes: &[i128],
+) -> Result<Vec<Break>, Memory>
+    requires sizes { AreElementSizes (length sizes.now) sizes.now }
+    requires search { IsSearch T.places T.value_of T.size_of T.fits T.start_of terms.now
+        (length sizes.now) search.old }
+    ensures slopes { IfOk result (λ r. AreBreakpoints (meanings T.places T.value_of terms.now)
+        (length sizes.now) sizes.now (map mark_of r.items)) }
+    ensures bases { IfOk result (λ r. All (HasBasesBy (meanings T.places T.value_of terms.now)
+        (λ q. map (λ term. T.start_of term q) terms.now) (length sizes.now) sizes.now) r.items) }
+{
+    let found = chain(search, terms, sizes)?;
+    let breaks = sections(search, terms, sizes, &found)?;
     Ok(breaks)
 }

@@ -14,4 +14,5 @@ mod tree;
 mod turn;
 mod worth;
 
-pub use breakpoints::{partition, partition_by};
+pub use breakpoints::{partition, partition_by, partition_with};
+pub use search::Search;

@@ -1,17 +1,18 @@
-// What the search for the breakpoints and the runs for their sections share: three exchange graphs of the terms and a
+// What the minimum, the search for the breakpoints and the runs for their sections share: three exchange graphs of the terms and a
 // shift, which are made once and used again at each slope. The rows at the first bases hang on no slope, so one graph stays
 // at these, and no term is asked for them again. One goes from slope to slope at 64 times the terms, whatever the denominators
 // are: so it comes within a 64th of each slope, though slopes may lie close together where sizes are large.
-ghost use Rattle.std.specs.Prelude.{◌≡◌, ◌^◌, length, map, pos, ◌≤ℤ◌, IfOk};
-ghost use Rattle.sfm_spec.specs.{Bounds.{AreBounded, IsAtMost}, Families.{sized_shift}, Sets.{magnitudes}};
+ghost use Rattle.std.specs.{Prelude.{◌≡◌, ◌^◌, length, map, pos, ◌≤ℤ◌, IfOk, OnOk}, List.{All}};
+ghost use Rattle.sfm_spec.specs.{Bounds.{AreBounded, IsAtMost, IsEntry}, Families.{meanings, AreBases, Prove, even_shift, sized_shift}, Sets.{magnitudes}, Walks.{IsFewWalks}};
 ghost use Rattle.sfm_sizes.specs.Sizes.{AreElementSizes};
 ghost use Rattle.sfm_slope.specs.Searches.{IsSearch};
 
 use crate::rows::first_rows;
-use sfm_base::Memory;
+use sfm_base::{Memory, Rows};
 use sfm_exchange::{Graph, graph_at, graph_by};
 use sfm_law::Term;
 use sfm_sizes::write_sized;
+use sfm_walk::minimise_from_start;
 use std::alloc::Global;
 
 /// The factor of the graph that goes from slope to slope.
@@ -65,6 +66,37 @@ impl<N> Search<N> {
             cold,
             shift,
         })
+    }
+
+    /// Bases of the terms that prove the minimum, reached from the first bases by few walks.
+    ///
+    /// # Errors
+    ///
+    /// `Memory` where there is none.
+    pub fn optimum<T: Term<Note = N>>(&mut self, terms: &[T]) -> Result<Rows, Memory>
+        requires search { IsSearch T.places T.value_of T.size_of T.fits T.start_of terms.now
+            (length self.old.shift.items) self.old }
+        ensures search { OnOk result (IsSearch T.places T.value_of T.size_of T.fits T.start_of
+            terms.now (length self.old.shift.items) self.new) }
+        ensures bases { IfOk result (AreBases (pos 1) (meanings T.places T.value_of terms.now)) }
+        ensures small { IfOk result (λ r. All (λ x. All IsEntry x) r) }
+        ensures proves { IfOk result (Prove (meanings T.places T.value_of terms.now)
+            (length self.old.shift.items) (pos 1)
+            (even_shift (length self.old.shift.items) (pos 0))) }
+        ensures few { IfOk result (IsFewWalks (meanings T.places T.value_of terms.now)
+            (length self.old.shift.items) (pos 1)
+            (even_shift (length self.old.shift.items) (pos 0))
+            (map (λ term. T.start_of term (pos 1)) terms.now)) }
+    {
+        self.shift.fill(0);
+        minimise_from_start(
+            self.alloc,
+            &mut self.cold,
+            &self.first,
+            terms,
+            1,
+            &self.shift,
+        )
     }
 }
 

@@ -20,19 +20,32 @@ use Rattle.sfm_due.proofs.solve.solve_by.Goals as goal
 use Rattle.sfm_due.proofs.solve.solve_by.Goals.{In_ok-found}
 
 -- what the engine finds and what is read off it, over the terms and the names of the instance
-gives : (c : In_ok-found) → Gives c.args.instance.now c.in_ok-optimum.optimum.bases c.in_ok-found.found.proved
+gives : (c : In_ok-found) → Gives c.args.instance.now c.in_ok-bases.bases c.in_ok-found.found.proved
 gives c =
-    let best = c.in_ok-optimum.ensures in
+    let best = c.in_ok-bases.ensures in
+    let few = c.in_ok-search.ensures.shift in
     let (least, greatest, value) = rw (c.terms-terms.ensures.terms, c.names_len-n.ensures.len) at c.in_ok-found.ensures.answer in
     record {
       bases = rw c.terms-terms.ensures.terms at best.bases;
       small = best.small;
-      proves = rw (c.terms-terms.ensures.terms, c.names_len-n.ensures.len) at best.proves;
-      reached = rw (c.terms-terms.ensures.terms, c.names_len-n.ensures.len) at best.few;
+      proves = rw (few, c.terms-terms.ensures.terms, c.names_len-n.ensures.len) at best.proves;
+      reached = rw (few, c.terms-terms.ensures.terms, c.names_len-n.ensures.len) at best.few;
       least = least;
       greatest = greatest;
       value = value;
     }
+
+pub optimum-requires : goal.optimum-requires
+optimum-requires c = record { search = rw c.in_ok-search.ensures.shift c.in_ok-search.ensures }
+
+pub read_minimisers-requires-clause-prove : goal.read_minimisers-requires-clause-prove
+read_minimisers-requires-clause-prove c = rw c.in_ok-search.ensures.shift at c.in_ok-bases.ensures.proves
+
+pub partition_with-requires-clause-sizes : goal.partition_with-requires-clause-sizes
+partition_with-requires-clause-sizes c = rw c.requires.places c.requires
+
+pub partition_with-requires-clause-search : goal.partition_with-requires-clause-search
+partition_with-requires-clause-search c = rw (c.requires.places, ← c.names_len-n.ensures.len, ← c.in_ok-search.ensures.shift) c.in_ok-bases.ensures.search
 
 pub returns : goal.returns
 returns c =
@@ -47,9 +60,9 @@ returns c =
     let fits : FitsSigned w128 c.in_ok-found.found.proved.value = omega (arith, ints, entry) in
     let blocks : AreBlocks (meanings_of instance.terms) n (pos 1) (even_shift n (pos 0)) (map block_of c.in_ok-found.found.blocks.items) = rw (c.terms-terms.ensures.terms, c.names_len-n.ensures.len) at c.in_ok-found.ensures.exact in
     let found = c.in_ok-breaks.breaks.items in
-    let a : Answer = record { value = c.in_ok-found.found.proved.value; least = c.in_ok-found.found.proved.least; greatest = c.in_ok-found.found.proved.greatest; blocks = map block_of c.in_ok-found.found.blocks.items; bases = c.in_ok-optimum.optimum.bases; breaks = map break_of found } in
-    let slopes : AreBreakpoints (meanings_of instance.terms) n sizes (map kept_mark found) = rw (c.terms-terms.ensures.terms, c.names_len-n.ensures.len) at c.in_ok-breaks.ensures.slopes in
-    let has : All (HasBasesBy (meanings_of instance.terms) (λ q. map (λ kind. kind_start kind q) instance.terms) n sizes) found = rw (c.terms-terms.ensures.terms, c.names_len-n.ensures.len) at c.in_ok-breaks.ensures.bases in
+    let a : Answer = record { value = c.in_ok-found.found.proved.value; least = c.in_ok-found.found.proved.least; greatest = c.in_ok-found.found.proved.greatest; blocks = map block_of c.in_ok-found.found.blocks.items; bases = c.in_ok-bases.bases; breaks = map break_of found } in
+    let slopes : AreBreakpoints (meanings_of instance.terms) n sizes (map kept_mark found) = rw (c.requires.places, c.terms-terms.ensures.terms) at c.in_ok-breaks.ensures.slopes in
+    let has : All (HasBasesBy (meanings_of instance.terms) (λ q. map (λ kind. kind_start kind q) instance.terms) n sizes) found = rw (c.requires.places, c.terms-terms.ensures.terms) at c.in_ok-breaks.ensures.bases in
     let done : IsTrueAnswer instance sizes a = true_answer instance sizes a c.names_len-n.ensures.named c.terms-terms.ensures.bounded sized (record {
       gives = h;
       blocks = blocks;
