@@ -6,6 +6,7 @@ use Rattle.std.specs.List.{range_with_len}
 use Rattle.std.proofs.lemmas.Bool.{both_ways, cases_lt, eq-eqb, eqb-true}
 use Rattle.std.proofs.lemmas.List.{get_or_past}
 use Rattle.std.proofs.lemmas.List.FromFn.{get_or-map-range_with_len, length-map-range_with_len}
+use Rattle.sfm_law.specs.declared.term.Term.{Ghosts}
 use Rattle.sfm_spec.specs.Sets.{Has, complement}
 use Rattle.sfm_spec.specs.Terms.{SetFunction, IsFamily, IsSubmodular}
 use Rattle.sfm_spec.specs.Families.{Meaning, meanings, AreTerms, AreBases, IsLeast, IsGreatest, IsMinimiser, IsSigned, Prove, rest_at}
@@ -165,17 +166,17 @@ module _ (terms : List Meaning) (n : ℕ) (rows : List (List ℤ)) {shift z : Li
 
 -- ---- the graph as a whole
 
-module _ {X N : Type 0} {places : X → List ℕ} {value : X → SetFunction} {size : X → ℤ} {fits : X → N → ℤ → List ℤ → Type 0} {terms : List X} {n : ℕ} {q : ℤ} {graph : Graph N} (h : IsWhole places value size fits terms n q graph)
-    (family : (x : X) → IsFamily (length (places x)) (value x)) (law : (x : X) → IsSubmodular (length (places x)) (value x)) where
-  fit : AreTerms n (meanings places value terms)
+module _ {X N : Type 0} {T : Ghosts X N} {terms : List X} {n : ℕ} {q : ℤ} {graph : Graph N} (h : IsWhole T terms n q graph)
+    (family : (x : X) → IsFamily (length (T.places x)) (T.value_of x)) (law : (x : X) → IsSubmodular (length (T.places x)) (T.value_of x)) where
+  fit : AreTerms n (meanings T.places T.value_of terms)
   fit = are_terms h family law
 
-  pub links_are : AreLinks (meanings places value terms) n q graph.bases graph.unions.items
-  links_are = links_of (meanings places value terms) n q graph.bases graph.spots.items graph.rows.items graph.unions.items h.exact.are_spots h.exact.are_unions (λ i l. h.exact.tables i (rw (counted h) at l))
+  pub links_are : AreLinks (meanings T.places T.value_of terms) n q graph.bases graph.unions.items
+  links_are = links_of (meanings T.places T.value_of terms) n q graph.bases graph.spots.items graph.rows.items graph.unions.items h.exact.are_spots h.exact.are_unions (λ i l. h.exact.tables i (rw (counted h) at l))
 
   -- links lead to places of the ground, and those turned round to places below 256
   pub link_in : (e t : ℕ) → e < length graph.unions.items → bit_in (set_at graph.unions.items e) t ≡ 1 → t < length graph.unions.items
-  link_in e t l bit = rw (unions_count h) (link_below (meanings places value terms) graph.bases n q (low h) fit h.exact.are_bases graph.unions.items links_are e t (rw (unions_count h) at l) bit)
+  link_in e t l bit = rw (unions_count h) (link_below (meanings T.places T.value_of terms) graph.bases n q (low h) fit h.exact.are_bases graph.unions.items links_are e t (rw (unions_count h) at l) bit)
 
   pub back_in : (e t : ℕ) → e < length graph.back.items → bit_in (set_at graph.back.items e) t ≡ 1 → t < length graph.back.items
   back_in e t l bit =
@@ -183,25 +184,25 @@ module _ {X N : Type 0} {places : X → List ℕ} {value : X → SetFunction} {s
       let from = link_from graph.unions.items t e (sym (turned.exact t e (rw turned.count at l)) ∙ bit) in
       rw turned.count (omega (arith, from, unions_count h, h.bounded.few))
 
-  module _ {shift z : List ℤ} {signs : Signs} (zn : length z ≡ n) (rest : IsRest (meanings places value terms) shift graph.bases z) (signed : AreSigns z signs) where
+  module _ {shift z : List ℤ} {signs : Signs} (zn : length z ≡ n) (rest : IsRest (meanings T.places T.value_of terms) shift graph.bases z) (signed : AreSigns z signs) where
     pub under_in : (e : ℕ) → bit_in signs.under e ≡ 1 → e < length graph.unions.items
-    under_in e one = rw (unions_count h) ((under_are (meanings places value terms) n graph.bases zn rest signed e).0 one).0
+    under_in e one = rw (unions_count h) ((under_are (meanings T.places T.value_of terms) n graph.bases zn rest signed e).0 one).0
 
     pub over_in : (e : ℕ) → bit_in signs.over e ≡ 1 → e < length graph.back.items
-    over_in e one = let (l, o) = (over_are (meanings places value terms) n graph.bases zn rest signed e).0 one in rw h.exact.are_turned.count (omega (arith, l, h.bounded.few))
+    over_in e one = let (l, o) = (over_are (meanings T.places T.value_of terms) n graph.bases zn rest signed e).0 one in rw h.exact.are_turned.count (omega (arith, l, h.bounded.few))
 
     -- where the levels are closed no walk joins
-    pub none : (levels : List Bits) → AreClosed n graph.unions.items z levels → (first : ℕ) (steps : List Step) → Joins (meanings places value terms) q shift graph.bases first steps → ⊥
-    none levels closed = none_joins (meanings places value terms) graph.bases n q shift z (low h) fit h.exact.are_bases zn rest graph.unions.items levels (λ e t l. (links_are e t l).1) closed
+    pub none : (levels : List Bits) → AreClosed n graph.unions.items z levels → (first : ℕ) (steps : List Step) → Joins (meanings T.places T.value_of terms) q shift graph.bases first steps → ⊥
+    none levels closed = none_joins (meanings T.places T.value_of terms) graph.bases n q shift z (low h) fit h.exact.are_bases zn rest graph.unions.items levels (λ e t l. (links_are e t l).1) closed
 
     -- and where none joins the bases prove
-    pub proves : ((first : ℕ) (steps : List Step) → Joins (meanings places value terms) q shift graph.bases first steps → ⊥) → Prove (meanings places value terms) n q shift graph.bases
-    proves none_does = prove_if_none (meanings places value terms) graph.bases n q shift (low h) fit h.exact.are_bases none_does
+    pub proves : ((first : ℕ) (steps : List Step) → Joins (meanings T.places T.value_of terms) q shift graph.bases first steps → ⊥) → Prove (meanings T.places T.value_of terms) n q shift graph.bases
+    proves none_does = prove_if_none (meanings T.places T.value_of terms) graph.bases n q shift (low h) fit h.exact.are_bases none_does
 
     -- where the bases prove
-    module _ (prove : Prove (meanings places value terms) n q shift graph.bases) (found : Bits) (s : List Bool) (same : IsSetOf found n s) where
-      pub least : AreReached graph.unions.items signs.under found → IsLeast (meanings places value terms) n q shift s
-      least = least_is (meanings places value terms) graph.bases n q (low h) fit h.exact.are_bases graph.unions.items links_are signs.under found s same shift prove (under_are (meanings places value terms) n graph.bases zn rest signed)
+    module _ (prove : Prove (meanings T.places T.value_of terms) n q shift graph.bases) (found : Bits) (s : List Bool) (same : IsSetOf found n s) where
+      pub least : AreReached graph.unions.items signs.under found → IsLeast (meanings T.places T.value_of terms) n q shift s
+      least = least_is (meanings T.places T.value_of terms) graph.bases n q (low h) fit h.exact.are_bases graph.unions.items links_are signs.under found s same shift prove (under_are (meanings T.places T.value_of terms) n graph.bases zn rest signed)
 
-      pub greatest : AreReached graph.back.items signs.over found → IsGreatest (meanings places value terms) n q shift (complement s)
-      greatest = greatest_is (meanings places value terms) graph.bases n q (low h) fit h.exact.are_bases graph.unions.items links_are signs.over found s same shift prove graph.back.items h.exact.are_turned h.bounded.few (unions_count h) (over_are (meanings places value terms) n graph.bases zn rest signed)
+      pub greatest : AreReached graph.back.items signs.over found → IsGreatest (meanings T.places T.value_of terms) n q shift (complement s)
+      greatest = greatest_is (meanings T.places T.value_of terms) graph.bases n q (low h) fit h.exact.are_bases graph.unions.items links_are signs.over found s same shift prove graph.back.items h.exact.are_turned h.bounded.few (unions_count h) (over_are (meanings T.places T.value_of terms) n graph.bases zn rest signed)

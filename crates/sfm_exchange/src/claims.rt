@@ -23,11 +23,10 @@ fn ask_at<T: Term>(
     i: usize,
     u: usize,
 ) -> Result<(), Memory>
-    requires ready { IsReady T.places T.value_of T.size_of T.fits terms.now q graph.old }
+    requires ready { IsReady T.Term terms.now q graph.old }
     requires term { i < length terms.now }
     requires place { u < length (term_at (meanings T.places T.value_of terms.now) i).places }
-    ensures still { OnOk result (IsStill T.places T.value_of T.size_of T.fits terms.now q graph.old
-        graph.new) }
+    ensures still { OnOk result (IsStill T.Term terms.now q graph.old graph.new) }
     ensures spots { OnOk result (graph.new.spots.items ≡ graph.old.spots.items) }
     ensures settled { OnOk result (bit_in (set_at graph.new.claimed.items i)
         (slice_index_or (term_at (meanings T.places T.value_of terms.now) i).places u 0) ≢ 1) }
@@ -76,13 +75,12 @@ pub fn prove_walk<T: Term>(
     q: i128,
     hops: &[Hop],
 ) -> Result<bool, Memory>
-    requires graph { IsClaimed T.places T.value_of T.size_of T.fits terms.now
-        (length graph.old.spots.items) q graph.old }
+    requires graph { IsClaimed T.Term terms.now (length graph.old.spots.items) q graph.old }
     requires small { All (λ x. All IsEntry x) graph.old.bases }
     requires told { (first : ℕ) × AreHops (meanings T.places T.value_of terms.now)
         graph.old.rows.items first hops.now }
-    ensures graph { OnOk result (IsClaimed T.places T.value_of T.size_of T.fits terms.now
-        (length graph.old.spots.items) q graph.new) }
+    ensures graph { OnOk result (IsClaimed T.Term terms.now (length graph.old.spots.items) q
+        graph.new) }
     ensures bases { OnOk result (graph.new.bases ≡ graph.old.bases) }
     ensures proved { IfOk result (λ r. r ≡ true → (k : ℕ) → k < length hops.now
         → IsMovable (meanings T.places T.value_of terms.now) q graph.old.bases
@@ -109,10 +107,9 @@ fn ask_place<T: Term>(
     q: i128,
     e: usize,
 ) -> Result<(), Memory>
-    requires ready { IsReady T.places T.value_of T.size_of T.fits terms.now q graph.old }
+    requires ready { IsReady T.Term terms.now q graph.old }
     requires place { e < length graph.old.spots.items }
-    ensures still { OnOk result (IsStill T.places T.value_of T.size_of T.fits terms.now q graph.old
-        graph.new) }
+    ensures still { OnOk result (IsStill T.Term terms.now q graph.old graph.new) }
     ensures exact { OnOk result ((t : ℕ) → bit_in (set_at graph.new.unions.items e) t ≡ 1
         → IsArc (meanings T.places T.value_of terms.now) q graph.old.bases e t) }
 {
@@ -141,12 +138,11 @@ pub fn walked_from<T: Term>(
     q: i128,
     firsts: &Bits,
 ) -> Result<Bits, Memory>
-    requires graph { IsClaimed T.places T.value_of T.size_of T.fits terms.now
-        (length graph.old.spots.items) q graph.old }
+    requires graph { IsClaimed T.Term terms.now (length graph.old.spots.items) q graph.old }
     requires small { All (λ x. All IsEntry x) graph.old.bases }
     requires firsts { (e : ℕ) → bit_in firsts.now e ≡ 1 → e < length graph.old.spots.items }
-    ensures graph { OnOk result (IsClaimed T.places T.value_of T.size_of T.fits terms.now
-        (length graph.old.spots.items) q graph.new) }
+    ensures graph { OnOk result (IsClaimed T.Term terms.now (length graph.old.spots.items) q
+        graph.new) }
     ensures bases { OnOk result (graph.new.bases ≡ graph.old.bases) }
     ensures walked { IfOk result (AreWalked (meanings T.places T.value_of terms.now)
         (length graph.old.spots.items) q graph.old.bases firsts.now) }

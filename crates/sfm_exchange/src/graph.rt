@@ -88,7 +88,7 @@ pub fn graph_at<T: Term>(
     requires factor { IsFactor q }
     requires bases { AreBases q (meanings T.places T.value_of terms.now) bases }
     requires small { All (λ x. All IsEntry x) bases }
-    ensures graph { IfOk result (IsGraph T.places T.value_of T.fits terms.now n q) }
+    ensures graph { IfOk result (IsGraph T.Term terms.now n q) }
     ensures bases { IfOk result (λ r. r.bases ≡ bases) }
 {
     let mut graph = blank_graph(alloc, terms, n)?;
@@ -103,7 +103,7 @@ pub(crate) fn blank_graph<T: Term>(
     n: usize,
 ) -> Result<Graph<T::Note>, Memory>
     requires { All (IsPlaced n) (map T.places terms.now) }
-    ensures { IfOk result (IsShaped T.places T.value_of terms.now n) }
+    ensures { IfOk result (IsShaped T.Term terms.now n) }
 {
     let spots = spots_of(alloc, terms, n)?;
     let rows = blank_rows(alloc, terms)?;
@@ -146,10 +146,10 @@ pub fn restart<T: Term>(
 ) -> Result<(), Memory>
     requires bounded { AreBounded n (map T.places terms.now) (map T.size_of terms.now) }
     requires factor { IsFactor q }
-    requires graph { IsShaped T.places T.value_of terms.now n graph.old }
+    requires graph { IsShaped T.Term terms.now n graph.old }
     requires bases { AreBases q (meanings T.places T.value_of terms.now) bases }
     requires small { All (λ x. All IsEntry x) bases }
-    ensures graph { OnOk result (IsGraph T.places T.value_of T.fits terms.now n q graph.new) }
+    ensures graph { OnOk result (IsGraph T.Term terms.now n q graph.new) }
     ensures bases { OnOk result (graph.new.bases ≡ bases) }
 {
     graph.sums = sums_of(alloc, terms, n, &bases)?;

@@ -24,14 +24,13 @@ pub fn amount_of<T: Term>(
     hops: &[Hop],
     most: i128,
 ) -> Result<i128, Memory>
-    requires graph { IsClaimed T.places T.value_of T.size_of T.fits terms.now
-        (length graph.old.spots.items) q graph.old }
+    requires graph { IsClaimed T.Term terms.now (length graph.old.spots.items) q graph.old }
     requires small { All (λ x. All IsEntry x) graph.old.bases }
     requires movable { (k : ℕ) → k < length hops.now → IsMovable
         (meanings T.places T.value_of terms.now) q graph.old.bases (hop_at hops.now k) }
     requires most { pos 1 ≤ℤ most }
-    ensures graph { OnOk result (IsClaimed T.places T.value_of T.size_of T.fits terms.now
-        (length graph.old.spots.items) q graph.new) }
+    ensures graph { OnOk result (IsClaimed T.Term terms.now (length graph.old.spots.items) q
+        graph.new) }
     ensures bases { OnOk result (graph.new.bases ≡ graph.old.bases) }
     ensures some { IfOk result (λ a. pos 1 ≤ℤ a) }
     ensures within { IfOk result (λ a. a ≤ℤ most) }
@@ -76,16 +75,15 @@ fn exchange_at<T: Term>(
     hop: Hop,
     a: i128,
 ) -> Result<(), Memory>
-    requires graph { IsClaimed T.places T.value_of T.size_of T.fits terms.now
-        (length graph.old.spots.items) q graph.old }
+    requires graph { IsClaimed T.Term terms.now (length graph.old.spots.items) q graph.old }
     requires inside { hop.term < length terms.now }
     requires small { All (λ x. All IsEntry x) graph.old.bases }
     requires can { CanExchange (meanings T.places T.value_of terms.now) q graph.old.bases hop a }
     requires low { pos 1 ≤ℤ a }
     ensures moved { OnOk result (graph.new.bases ≡ slice_set graph.old.bases hop.term
         (exchanged (base_at graph.old.bases hop.term) hop.u hop.v a)) }
-    ensures graph { OnOk result (IsClaimed T.places T.value_of T.size_of T.fits terms.now
-        (length graph.old.spots.items) q graph.new) }
+    ensures graph { OnOk result (IsClaimed T.Term terms.now (length graph.old.spots.items) q
+        graph.new) }
 {
     let i = hop.term;
     let term = &terms[i];
@@ -133,8 +131,7 @@ pub fn move_along<T: Term>(
     path: &Path,
     a: i128,
 ) -> Result<(), Memory>
-    requires graph { IsClaimed T.places T.value_of T.size_of T.fits terms.now
-        (length graph.old.spots.items) q graph.old }
+    requires graph { IsClaimed T.Term terms.now (length graph.old.spots.items) q graph.old }
     requires small { All (λ x. All (IsAtMost (5 * 10 ^ 29)) x) graph.old.bases }
     requires low { pos 1 ≤ℤ a }
     requires high { a ≤ℤ pos (5 * 10 ^ 29) }
@@ -143,8 +140,8 @@ pub fn move_along<T: Term>(
     requires order { AreInOrder (meanings T.places T.value_of terms.now) q graph.old.bases
         path.now.first (steps_of path.now.hops.items) a }
     requires falls { (d : ℕ → ℕ) × FallsAlong d path.now.first (steps_of path.now.hops.items) }
-    ensures graph { OnOk result (IsClaimed T.places T.value_of T.size_of T.fits terms.now
-        (length graph.old.spots.items) q graph.new) }
+    ensures graph { OnOk result (IsClaimed T.Term terms.now (length graph.old.spots.items) q
+        graph.new) }
     ensures moved { OnOk result (IsWalkMove (meanings T.places T.value_of terms.now) graph.old.bases
         path.now.first (steps_of path.now.hops.items) a graph.new.bases) }
 {

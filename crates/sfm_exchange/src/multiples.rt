@@ -65,8 +65,7 @@ fn notes_times<T: Term>(
 ) -> Result<Vec<Option<T::Note>>, Memory>
     requires times { IsFactor m }
     requires factor { IsFactor (m *ℤ other.now.q) }
-    requires other { (n : ℕ) × IsClaimed T.places T.value_of T.size_of T.fits terms.now n other.now.q
-        other.now.graph.now }
+    requires other { (n : ℕ) × IsClaimed T.Term terms.now n other.now.q other.now.graph.now }
     requires small { All (λ x. All (IsAtMost (10 ^ 21)) x) other.now.graph.now.bases }
     ensures count { IfOk result (λ r. length r.items ≡ length terms.now) }
     ensures noted { IfOk result (λ r. AreNotes (kept_fits T.fits) (m *ℤ other.now.q) terms.now
@@ -99,13 +98,12 @@ pub fn restart_times<T: Term>(
 ) -> Result<(), Memory>
     requires times { IsFactor m }
     requires factor { IsFactor (m *ℤ other.now.q) }
-    requires graph { IsShaped T.places T.value_of terms.now
-        (length graph.old.spots.items) graph.old }
-    requires other { IsClaimed T.places T.value_of T.size_of T.fits terms.now
-        (length graph.old.spots.items) other.now.q other.now.graph.now }
+    requires graph { IsShaped T.Term terms.now (length graph.old.spots.items) graph.old }
+    requires other { IsClaimed T.Term terms.now (length graph.old.spots.items) other.now.q
+        other.now.graph.now }
     requires small { All (λ x. All (IsAtMost (10 ^ 21)) x) other.now.graph.now.bases }
-    ensures graph { OnOk result (IsClaimed T.places T.value_of T.size_of T.fits terms.now
-        (length graph.old.spots.items) (m *ℤ other.now.q) graph.new) }
+    ensures graph { OnOk result (IsClaimed T.Term terms.now (length graph.old.spots.items) (m *ℤ
+        other.now.q) graph.new) }
     ensures bases { OnOk result (graph.new.bases ≡ rows_times m other.now.graph.now.bases) }
 {
     graph.bases = other.graph.bases.times(alloc, m)?;
@@ -128,13 +126,11 @@ pub fn restart_by<T: Term>(
     other: &Graph<T::Note>,
 ) -> Result<(), Memory>
     requires factor { IsFactor q }
-    requires graph { IsShaped T.places T.value_of terms.now
-        (length graph.old.spots.items) graph.old }
-    requires other { IsClaimed T.places T.value_of T.size_of T.fits terms.now
-        (length graph.old.spots.items) (pos 1) other.now }
+    requires graph { IsShaped T.Term terms.now (length graph.old.spots.items) graph.old }
+    requires other { IsClaimed T.Term terms.now (length graph.old.spots.items) (pos 1) other.now }
     requires small { All (λ x. All (IsAtMost (10 ^ 21)) x) other.now.bases }
-    ensures graph { OnOk result (IsClaimed T.places T.value_of T.size_of T.fits terms.now
-        (length graph.old.spots.items) q graph.new) }
+    ensures graph { OnOk result (IsClaimed T.Term terms.now (length graph.old.spots.items) q
+        graph.new) }
     ensures bases { OnOk result (graph.new.bases ≡ rows_times q other.now.bases) }
 {
     let beside = Beside { graph: other, q: 1 };
@@ -155,9 +151,9 @@ pub fn graph_by<T: Term>(
     other: &Graph<T::Note>,
 ) -> Result<Graph<T::Note>, Memory>
     requires factor { IsFactor q }
-    requires other { IsClaimed T.places T.value_of T.size_of T.fits terms.now n (pos 1) other.now }
+    requires other { IsClaimed T.Term terms.now n (pos 1) other.now }
     requires small { All (λ x. All (IsAtMost (10 ^ 21)) x) other.now.bases }
-    ensures graph { IfOk result (IsClaimed T.places T.value_of T.size_of T.fits terms.now n q) }
+    ensures graph { IfOk result (IsClaimed T.Term terms.now n q) }
     ensures bases { IfOk result (λ r. r.bases ≡ rows_times q other.now.bases) }
 {
     let mut graph = blank_graph(alloc, terms, n)?;

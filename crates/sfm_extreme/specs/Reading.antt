@@ -1,5 +1,6 @@
 -- What is read off bases.
 use Rattle.std.specs.Prelude.{◌≡◌, ℕ, List, length, ℤ}
+use Rattle.sfm_law.specs.declared.term.Term.{Ghosts}
 use Rattle.sfm_spec.specs.Terms.{SetFunction}
 use Rattle.sfm_spec.specs.Families.{meanings}
 use Rattle.sfm_law.specs.Rest.{IsRest}
@@ -9,10 +10,10 @@ use Rattle.sfm_exchange.specs.Signs.{AreSigns}
 use Rattle.sfm_extreme.specs.declared.reading.Reading.{Reading}
 
 -- the graph is one of q times the terms over n places, z and its signs are those of its bases, and the two searches are done
-pub record IsReading {X N : Type 0} (places : X → List ℕ) (value : X → SetFunction) (size : X → ℤ) (fits : X → N → ℤ → List ℤ → Type 0) (terms : List X) (n : ℕ) (q : ℤ) (shift : List ℤ) (reading : Reading N) : Type 0 where
-  pub whole : IsWhole places value size fits terms n q reading.graph
+pub record IsReading {X N : Type 0} (T : Ghosts X N) (terms : List X) (n : ℕ) (q : ℤ) (shift : List ℤ) (reading : Reading N) : Type 0 where
+  pub whole : IsWhole T terms n q reading.graph
   pub count : length reading.z.items ≡ n
-  pub is_rest : IsRest (meanings places value terms) shift reading.graph.bases reading.z.items
+  pub is_rest : IsRest (meanings T.places T.value_of terms) shift reading.graph.bases reading.z.items
   pub signed : AreSigns reading.z.items reading.signs
   pub reached_are : AreReached reading.graph.unions.items reading.signs.under reading.reached
   pub leading_are : AreReached reading.graph.back.items reading.signs.over reading.leading

@@ -101,8 +101,7 @@ pub(crate) fn told_by<T: Term>(
     shift: &[i128],
     reading: &Reading<T::Note>,
 ) -> Result<Certified, Memory>
-    requires reading { IsReading T.places T.value_of T.size_of T.fits terms.now
-        (length shift.now) q shift.now reading.now }
+    requires reading { IsReading T.Term terms.now (length shift.now) q shift.now reading.now }
     requires shifts { magnitudes shift.now ≤ℤ pos (10 ^ 36) }
     requires small { All (λ x. All IsEntry x) reading.now.graph.bases }
     ensures { IfOk result (λ r. IsAnswer (meanings T.places T.value_of terms.now)

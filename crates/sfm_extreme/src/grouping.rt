@@ -68,8 +68,7 @@ pub(crate) fn blocks_read<T: Term>(
     _n: usize,
     reading: &Reading<T::Note>,
 ) -> Result<Vec<Block>, Memory>
-    requires reading { IsReading T.places T.value_of T.size_of T.fits _terms.now _n (pos 1)
-        (even_shift _n (pos 0)) reading.now }
+    requires reading { IsReading T.Term _terms.now _n (pos 1) (even_shift _n (pos 0)) reading.now }
     requires prove { Prove (meanings T.places T.value_of _terms.now) _n (pos 1)
         (even_shift _n (pos 0)) reading.now.graph.bases }
     ensures exact { IfOk result (λ r. AreBlocks (meanings T.places T.value_of _terms.now) _n (pos 1)

@@ -23,8 +23,7 @@ pub fn joining_walk<T: Term>(
     _shift: &[i128],
     reading: &Reading<T::Note>,
 ) -> Result<Option<Walk>, Memory>
-    requires { IsReading T.places T.value_of T.size_of T.fits terms.now
-        (length _shift.now) _q _shift.now reading.now }
+    requires { IsReading T.Term terms.now (length _shift.now) _q _shift.now reading.now }
     ensures { IfOk result (λ r. MatchOption r ((first : ℕ) (steps : List Step)
         → Joins (meanings T.places T.value_of terms.now) _q _shift.now reading.now.graph.bases first
         steps → ⊥)

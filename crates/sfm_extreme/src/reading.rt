@@ -55,8 +55,7 @@ pub fn read_at<T: Term>(
     requires factor { IsFactor q }
     requires bases { AreBases q (meanings T.places T.value_of terms.now) bases.now }
     requires small { All (λ x. All IsEntry x) bases.now }
-    ensures reading { IfOk result (IsReading T.places T.value_of T.size_of T.fits terms.now
-        (length shift.now) q shift.now) }
+    ensures reading { IfOk result (IsReading T.Term terms.now (length shift.now) q shift.now) }
     ensures bases { IfOk result (λ r. r.graph.bases ≡ bases.now) }
 {
     let z = rest_of(alloc, terms, shift, bases)?;

@@ -4,6 +4,7 @@ use Rattle.std.specs.List.{All}
 use Rattle.std.proofs.lemmas.Int.{ints}
 use Rattle.std.proofs.lemmas.List.{get_or-replicate}
 use Rattle.std.proofs.lemmas.List.Elements.{All-cons, All-from_get_or, All-get_or}
+use Rattle.sfm_law.specs.declared.term.Term.{Ghosts}
 use Rattle.sfm_spec.specs.Bounds.{IsAtMost, total_of}
 use Rattle.sfm_spec.specs.Terms.{SetFunction}
 use Rattle.sfm_spec.specs.Families.{Meaning, meanings, AreTerms, base_sum_at, rest_at, deficit, even_shift}
@@ -18,26 +19,25 @@ use Rattle.sfm_level.proofs.Chains.{chain_lowers}
 use Rattle.sfm_level.proofs.FirstSums.{IsIn, first_sum-in}
 use Rattle.sfm_level.proofs.Values.{get_or-first_values, length-first_values}
 
-module _ {X N : Type 0} {places : X → List ℕ} {value : X → SetFunction} {size : X → ℤ}
-    {fits : X → N → ℤ → List ℤ → Type 0} {terms : List X} {n : ℕ} {graph : Graph N}
-    (h : IsLevelling places value size fits terms n graph) where
+module _ {X N : Type 0} {T : Ghosts X N} {terms : List X} {n : ℕ} {graph : Graph N}
+    (h : IsLevelling T terms n graph) where
   abbrev Terms : List Meaning
-  Terms = meanings places value terms
+  Terms = meanings T.places T.value_of terms
 
   -- the sum of the bases
   abbrev Sums : List ℤ
-  Sums = sums_of (meanings places value terms) n graph.bases
+  Sums = sums_of (meanings T.places T.value_of terms) n graph.bases
 
   -- its squares
-  pub squares-near : squares_at (meanings places value terms) n graph.bases ≤ℤ pos (11 * 10 ^ 28)
+  pub squares-near : squares_at (meanings T.places T.value_of terms) n graph.bases ≤ℤ pos (11 * 10 ^ 28)
   squares-near = let r = h.room in let l = h.low in omega (arith, ints, r, l)
 
   -- each number of it
-  pub sums-near : All (IsAtMost (10 ^ 15)) (sums_of (meanings places value terms) n graph.bases)
+  pub sums-near : All (IsAtMost (10 ^ 15)) (sums_of (meanings T.places T.value_of terms) n graph.bases)
   sums-near = let near = squares-near in roots-small Sums (omega (arith, ints, near))
 
   pub sum-near : (e : ℕ) → e < n
-      → IsAtMost (10 ^ 15) (base_sum_at (meanings places value terms) graph.bases e)
+      → IsAtMost (10 ^ 15) (base_sum_at (meanings T.places T.value_of terms) graph.bases e)
   sum-near e l =
       let f = base_sum_at Terms graph.bases in
       rw (get_or-first_values n f e l) at (All-get_or (IsAtMost (10 ^ 15)) Sums e (pos 0)
@@ -56,7 +56,7 @@ module _ {X N : Type 0} {places : X → List ℕ} {value : X → SetFunction} {s
 
   -- the sum of min(z, 0) at a slope
   pub gap-near : n ≤ 256 → (t : ℤ) → IsAtMost (10 ^ 15 + 1) t → neg_ℤ (pos (4 * 10 ^ 29))
-      ≤ℤ deficit n (rest_at (meanings places value terms) graph.bases (even_shift n t))
+      ≤ℤ deficit n (rest_at (meanings T.places T.value_of terms) graph.bases (even_shift n t))
   gap-near few t small =
       let d = deficit-near n (rest_at Terms graph.bases (even_shift n t)) (λ e l.
       let s = sum-near e l in
@@ -65,12 +65,12 @@ module _ {X N : Type 0} {places : X → List ℕ} {value : X → SetFunction} {s
       omega (arith, ints, d, few)
 
   -- after some walks at a slope
-  module _ (fit : AreTerms n (meanings places value terms)) (t : ℤ) (k : ℕ) (after : Graph N)
-      (chain : IsWalkChain (meanings places value terms) (pos 1) (even_shift n t) k graph.bases
+  module _ (fit : AreTerms n (meanings T.places T.value_of terms)) (t : ℤ) (k : ℕ) (after : Graph N)
+      (chain : IsWalkChain (meanings T.places T.value_of terms) (pos 1) (even_shift n t) k graph.bases
       after.bases) where
-    pub levelling_after : IsClaimed places value size fits terms n (pos 1) after
-        → AreSpread (meanings places value terms) n (even_shift n t) graph.bases after.bases
-        → IsLevelling places value size fits terms n after
+    pub levelling_after : IsClaimed T terms n (pos 1) after
+        → AreSpread (meanings T.places T.value_of terms) n (even_shift n t) graph.bases after.bases
+        → IsLevelling T terms n after
     levelling_after claimed spread =
         let lowered = chain_lowers Terms n t fit k graph.bases after.bases h.claimed.are_bases chain in
         let up = lowered.rises in
@@ -88,8 +88,8 @@ module _ {X N : Type 0} {places : X → List ℕ} {value : X → SetFunction} {s
         }
 
     -- the squares have fallen, if there was any
-    pub squares_fall : 0 < k → squares_at (meanings places value terms) n after.bases
-        <ℤ squares_at (meanings places value terms) n graph.bases
+    pub squares_fall : 0 < k → squares_at (meanings T.places T.value_of terms) n after.bases
+        <ℤ squares_at (meanings T.places T.value_of terms) n graph.bases
     squares_fall some =
         let lowered = chain_lowers Terms n t fit k graph.bases after.bases h.claimed.are_bases chain in
         let up = lowered.rises in
@@ -97,15 +97,14 @@ module _ {X N : Type 0} {places : X → List ℕ} {value : X → SetFunction} {s
         omega (arith, ints, up, down, some)
 
 -- at the first bases, where the sizes of the terms add to little
-module _ {X N : Type 0} (places : X → List ℕ) (value : X → SetFunction) (size : X → ℤ)
-    (fits : X → N → ℤ → List ℤ → Type 0) (start : X → List ℤ) (low : (x : X) → pos 0 ≤ℤ size x)
-    (starts_small : (x : X) → All (IsIn (pos 2 *ℤ size x)) (start x)) (terms : List X) (n : ℕ) where
+module _ {X N : Type 0} (T : Ghosts X N) (start : X → List ℤ) (low : (x : X) → pos 0 ≤ℤ T.size_of x)
+    (starts_small : (x : X) → All (IsIn (pos 2 *ℤ T.size_of x)) (start x)) (terms : List X) (n : ℕ) where
   -- a term is no larger than all together
-  all-low : (xs : List X) → pos 0 ≤ℤ total_of (map size xs)
+  all-low : (xs : List X) → pos 0 ≤ℤ total_of (map T.size_of xs)
   all-low [] = omega (arith, ints)
   all-low (x ∷ xs) = let r = all-low xs in let l = low x in omega (arith, ints, r, l)
 
-  starts-within : (xs : List X) → total_of (map size xs) ≤ℤ pos (10 ^ 13)
+  starts-within : (xs : List X) → total_of (map T.size_of xs) ≤ℤ pos (10 ^ 13)
       → All (λ x. All (IsUpTo (pos (2 * 10 ^ 13))) x) (map start xs)
   starts-within [] small = λ i d l. absurd (omega (arith, l))
   starts-within (x ∷ xs) small =
@@ -115,9 +114,9 @@ module _ {X N : Type 0} (places : X → List ℕ) (value : X → SetFunction) (s
       record { low = omega (arith, ints, s.0, small, r); high = omega (arith, ints, s.1, small, r) })
       (starts-within xs (let l = low x in omega (arith, ints, small, l)))
 
-  pub levelling_begun : (graph : Graph N) → IsClaimed places value size fits terms n (pos 1) graph
-      → graph.bases ≡ map start terms → total_of (map size terms) ≤ℤ pos (10 ^ 13)
-      → IsLevelling places value size fits terms n graph
+  pub levelling_begun : (graph : Graph N) → IsClaimed T terms n (pos 1) graph
+      → graph.bases ≡ map start terms → total_of (map T.size_of terms) ≤ℤ pos (10 ^ 13)
+      → IsLevelling T terms n graph
   levelling_begun graph claimed is small = record {
     claimed = claimed;
     bound = pos (2 * 10 ^ 13);
@@ -129,14 +128,14 @@ module _ {X N : Type 0} (places : X → List ℕ) (value : X → SetFunction) (s
     few = claimed.bounded.few
 
     f : ℕ → ℤ
-    f = base_sum_at (meanings places value terms) graph.bases
+    f = base_sum_at (meanings T.places T.value_of terms) graph.bases
 
-    near : squares_at (meanings places value terms) n graph.bases ≤ℤ pos (4 * 10 ^ 26 * n)
+    near : squares_at (meanings T.places T.value_of terms) n graph.bases ≤ℤ pos (4 * 10 ^ 26 * n)
     near =
-        let z = sums_of (meanings places value terms) n graph.bases in
+        let z = sums_of (meanings T.places T.value_of terms) n graph.bases in
         rw (length-first_values n f) at (squares-small z (All-from_get_or (IsAtMost (2 * 10 ^ 13)) z (pos 0) (λ e l.
         let le : e < n = rw (length-first_values n f) at l in
-        let a = first_sum-in places value size start low starts_small n terms claimed.bounded.placed e in
-        let v : get_or z e (pos 0) ≡ base_sum_at (meanings places value terms) (map start terms) e
-        = get_or-first_values n f e le ∙ ap (λ b. base_sum_at (meanings places value terms) b e) is in
+        let a = first_sum-in T.places T.value_of T.size_of start low starts_small n terms claimed.bounded.placed e in
+        let v : get_or z e (pos 0) ≡ base_sum_at (meanings T.places T.value_of terms) (map start terms) e
+        = get_or-first_values n f e le ∙ ap (λ b. base_sum_at (meanings T.places T.value_of terms) b e) is in
         record { low = omega (arith, ints, v, a.0, small); high = omega (arith, ints, v, a.1, small) })))

@@ -36,9 +36,8 @@ pub fn guide<T: Term>(
     terms: &[T],
     n: usize,
 ) -> Result<(), Memory>
-    requires { IsLevelling T.places T.value_of T.size_of T.fits terms.now n graph.old }
-    ensures { OnOk result (IsLevelling T.places T.value_of T.size_of T.fits terms.now n
-        graph.new) }
+    requires { IsLevelling T.Term terms.now n graph.old }
+    ensures { OnOk result (IsLevelling T.Term terms.now n graph.new) }
 {
     let mut ahead = Vec::new(alloc);
     ahead.push(whole(n))?;
@@ -108,9 +107,8 @@ fn least_at<T: Term>(
     t: i128,
 ) -> Result<Bits, Memory>
     requires slope { IsAtMost (10 ^ 15 + 1) t }
-    requires graph { IsLevelling T.places T.value_of T.size_of T.fits terms.now n graph.old }
-    ensures { OnOk result (IsLevelling T.places T.value_of T.size_of T.fits terms.now n
-        graph.new) }
+    requires graph { IsLevelling T.Term terms.now n graph.old }
+    ensures { OnOk result (IsLevelling T.Term terms.now n graph.new) }
 {
     let mut steps = Steps::new();
     let z = settle(alloc, graph, terms, n, t, &mut steps)?;

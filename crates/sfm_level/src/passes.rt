@@ -50,9 +50,8 @@ fn is_moved<T: Term>(
     terms: &[T],
     n: usize,
 ) -> Result<bool, Memory>
-    requires { IsLevelling T.places T.value_of T.size_of T.fits terms.now n graph.old }
-    ensures graph { OnOk result (IsLevelling T.places T.value_of T.size_of T.fits terms.now n
-        graph.new) }
+    requires { IsLevelling T.Term terms.now n graph.old }
+    ensures graph { OnOk result (IsLevelling T.Term terms.now n graph.new) }
     ensures moved { IfOk result (λ r. r ≡ true
         → squares_at (meanings T.places T.value_of terms.now) n graph.new.bases
         <ℤ squares_at (meanings T.places T.value_of terms.now) n graph.old.bases) }

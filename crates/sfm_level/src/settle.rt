@@ -28,9 +28,8 @@ pub fn settle<T: Term>(
 ) -> Result<Numbers, Memory>
     requires none { steps.old ≡ 0 }
     requires slope { IsAtMost (10 ^ 15 + 1) t }
-    requires graph { IsLevelling T.places T.value_of T.size_of T.fits terms.now n graph.old }
-    ensures graph { OnOk result (IsLevelling T.places T.value_of T.size_of T.fits terms.now n
-        graph.new) }
+    requires graph { IsLevelling T.Term terms.now n graph.old }
+    ensures graph { OnOk result (IsLevelling T.Term terms.now n graph.new) }
     ensures places { IfOk result (λ z. length z ≡ n) }
     ensures moved { OnOk result (0 < steps.new
         → squares_at (meanings T.places T.value_of terms.now) n graph.new.bases
@@ -56,9 +55,8 @@ pub fn prove_at<T: Term>(
     t: i128,
 ) -> Result<bool, Memory>
     requires slope { IsAtMost (10 ^ 15 + 1) t }
-    requires graph { IsLevelling T.places T.value_of T.size_of T.fits terms.now n graph.old }
-    ensures graph { OnOk result (IsLevelling T.places T.value_of T.size_of T.fits terms.now n
-        graph.new) }
+    requires graph { IsLevelling T.Term terms.now n graph.old }
+    ensures graph { OnOk result (IsLevelling T.Term terms.now n graph.new) }
     ensures moved { IfOk result (λ r. r ≡ true
         → squares_at (meanings T.places T.value_of terms.now) n graph.new.bases
         <ℤ squares_at (meanings T.places T.value_of terms.now) n graph.old.bases) }

@@ -22,8 +22,7 @@ pub fn ask_all<T: Term>(
     requires count { length notes.old.items ≡ length terms.now }
     requires noted { AreNotes (kept_fits T.fits) q terms.now notes.old.items bases.now }
     requires rows { AreSized (map T.places terms.now) rows.old.items }
-    ensures { OnOk result (AreAllAsked T.places T.value_of T.fits terms.now q bases.now
-        notes.new.items rows.new.items) }
+    ensures { OnOk result (AreAllAsked T.Term terms.now q bases.now notes.new.items rows.new.items) }
 {
     for (i, term) in terms.iter().enumerate() {
         let x = bases.row(i);

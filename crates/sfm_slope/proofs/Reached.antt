@@ -4,6 +4,7 @@ use Rattle.std.specs.List.{All}
 use Rattle.std.proofs.lemmas.Int.{ints}
 use Rattle.std.proofs.lemmas.Bool.{cases_lt}
 use Rattle.std.proofs.lemmas.List.{get_or-map, get_or_default, length-map, map-append, take-append-drop, take_more}
+use Rattle.sfm_law.specs.declared.term.Term.{Ghosts}
 use Rattle.sfm_spec.specs.Families.{Meaning, meanings, sized_shift}
 use Rattle.sfm_spec.specs.Terms.{SetFunction}
 use Rattle.sfm_spec.specs.Walks.{IsWalkChain, few_walks}
@@ -103,10 +104,10 @@ module _ (found : List Breakpoint) (i : ℕ) (before here m : ℤ) (point : Brea
       (cases_lt k i)
 
 -- a stage over some breakpoints is one over others that are among them
-module _ {X N : Type 0} {places : X → List ℕ} {value : X → SetFunction} {size : X → ℤ} {fits : X → N → ℤ → List ℤ → Type 0} {start : X → ℤ → List ℤ} {terms : List X} {sizes : List ℤ}
-    {found : List Breakpoint} {standing : Standing N} (h : IsStanding places value size fits start terms sizes found standing) where
-  pub standing_over : (others : List Breakpoint) → ((P : Breakpoint → Type 0) → All P found → All P others) → IsStanding places value size fits start terms sizes others standing
-  standing_over others among = record { claimed = h.claimed; small = h.small; few = h.few; reached = among (λ b. IsWalkChain (meanings places value terms) b.slope.den (sized_shift sizes b.slope.num) standing.walks (rows_times b.slope.den (map (λ x. start x (pos 1)) terms)) (rows_times b.slope.den standing.graph.bases)) h.reached }
+module _ {X N : Type 0} {T : Ghosts X N} {terms : List X} {sizes : List ℤ}
+    {found : List Breakpoint} {standing : Standing N} (h : IsStanding T terms sizes found standing) where
+  pub standing_over : (others : List Breakpoint) → ((P : Breakpoint → Type 0) → All P found → All P others) → IsStanding T terms sizes others standing
+  standing_over others among = record { claimed = h.claimed; small = h.small; few = h.few; reached = among (λ b. IsWalkChain (meanings T.places T.value_of terms) b.slope.den (sized_shift sizes b.slope.num) standing.walks (rows_times b.slope.den (map (λ x. T.start_of x (pos 1)) terms)) (rows_times b.slope.den standing.graph.bases)) h.reached }
 
 -- what a list is mapped to behind others, with one element more
 pub mapped_behind : {X Y : Type 0} (f : X → Y) (xs : List X) (i : ℕ) (d : X) (front done : List Y) (y : Y) → i < length xs → done ≡ front ++ map f (take i xs) → y ≡ f (get_or xs i d)

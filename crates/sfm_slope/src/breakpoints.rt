@@ -71,8 +71,7 @@ pub fn partition_with<T: Term>(
     sizes: &[i128],
 ) -> Result<Vec<Break>, Memory>
     requires sizes { AreElementSizes (length sizes.now) sizes.now }
-    requires search { IsSearch T.places T.value_of T.size_of T.fits T.start_of terms.now
-        (length sizes.now) search.old }
+    requires search { IsSearch T.Term terms.now (length sizes.now) search.old }
     ensures slopes { IfOk result (λ r. AreBreakpoints (meanings T.places T.value_of terms.now)
         (length sizes.now) sizes.now (map mark_of r.items)) }
     ensures bases { IfOk result (λ r. All (HasBasesBy (meanings T.places T.value_of terms.now)

@@ -20,10 +20,8 @@ pub fn chain<T: Term>(
     sizes: &[i128],
 ) -> Result<Vec<Breakpoint>, Memory>
     requires sizes { AreElementSizes (length sizes.now) sizes.now }
-    requires search { IsSearch T.places T.value_of T.size_of T.fits T.start_of terms.now
-        (length sizes.now) search.old }
-    ensures search { OnOk result (IsSearch T.places T.value_of T.size_of T.fits T.start_of terms.now
-        (length sizes.now) search.new) }
+    requires search { IsSearch T.Term terms.now (length sizes.now) search.old }
+    ensures search { OnOk result (IsSearch T.Term terms.now (length sizes.now) search.new) }
     ensures slopes { IfOk result (λ r. AreBreakpoints (meanings T.places T.value_of terms.now)
         (length sizes.now) sizes.now (map found_mark r.items)) }
     ensures ranges { IfOk result (λ r. All (IsInRange sizes.now) r.items) }
@@ -48,16 +46,14 @@ fn fill<T: Term>(
     found: &mut Vec<Breakpoint>,
 ) -> Result<(), Memory>
     requires sizes { AreElementSizes (length sizes.now) sizes.now }
-    requires search { IsSearch T.places T.value_of T.size_of T.fits T.start_of terms.now
-        (length sizes.now) search.old }
+    requires search { IsSearch T.Term terms.now (length sizes.now) search.old }
     requires before { IsPartTo (meanings T.places T.value_of terms.now)
         (length sizes.now) sizes.now found.old.items low.now.set }
     requires gap { IsGap (meanings T.places T.value_of terms.now)
         (length sizes.now) sizes.now low.now.set high.now.set }
     requires low_worth { IsWorth (meanings T.places T.value_of terms.now) sizes.now low.now }
     requires high_worth { IsWorth (meanings T.places T.value_of terms.now) sizes.now high.now }
-    ensures search { OnOk result (IsSearch T.places T.value_of T.size_of T.fits T.start_of terms.now
-        (length sizes.now) search.new) }
+    ensures search { OnOk result (IsSearch T.Term terms.now (length sizes.now) search.new) }
     ensures part { OnOk result (IsPartTo (meanings T.places T.value_of terms.now)
         (length sizes.now) sizes.now found.new.items high.now.set) }
 {

@@ -34,11 +34,9 @@ pub fn least_near<T: Term>(
     size: usize,
 ) -> Result<Worth, Memory>
     requires sizes { AreElementSizes (length sizes.now) sizes.now }
-    requires search { IsSearch T.places T.value_of T.size_of T.fits T.start_of terms.now
-        (length sizes.now) search.old }
+    requires search { IsSearch T.Term terms.now (length sizes.now) search.old }
     requires small { IsAtMost (10 ^ 19) slope.num }
-    ensures search { OnOk result (IsSearch T.places T.value_of T.size_of T.fits T.start_of terms.now
-        (length sizes.now) search.new) }
+    ensures search { OnOk result (IsSearch T.Term terms.now (length sizes.now) search.new) }
     ensures least { IfOk result (λ r. IsLeastNear (meanings T.places T.value_of terms.now)
         (length sizes.now) sizes.now slope.num slope.den size r.set) }
     ensures worth { IfOk result (IsWorth (meanings T.places T.value_of terms.now) sizes.now) }
@@ -85,11 +83,9 @@ fn least_below<T: Term>(
     p: i128,
 ) -> Result<Worth, Memory>
     requires sizes { AreElementSizes (length sizes.now) sizes.now }
-    requires search { IsSearch T.places T.value_of T.size_of T.fits T.start_of terms.now
-        (length sizes.now) search.old }
+    requires search { IsSearch T.Term terms.now (length sizes.now) search.old }
     requires small { IsAtMost (10 ^ 21) p }
-    ensures search { OnOk result (IsSearch T.places T.value_of T.size_of T.fits T.start_of terms.now
-        (length sizes.now) search.new) }
+    ensures search { OnOk result (IsSearch T.Term terms.now (length sizes.now) search.new) }
     ensures least { IfOk result (λ r. IsLeast (meanings T.places T.value_of terms.now)
         (length sizes.now) (pos 64) (sized_shift sizes.now p) r.set) }
     ensures worth { IfOk result (IsWorth (meanings T.places T.value_of terms.now) sizes.now) }
@@ -109,12 +105,10 @@ fn least_at<T: Term>(
     slope: Slope,
 ) -> Result<Worth, Memory>
     requires sizes { AreElementSizes (length sizes.now) sizes.now }
-    requires search { IsSearch T.places T.value_of T.size_of T.fits T.start_of terms.now
-        (length sizes.now) search.old }
+    requires search { IsSearch T.Term terms.now (length sizes.now) search.old }
     requires small { IsAtMost (10 ^ 19) slope.num }
     requires few { slope.den ≤ℤ pos 15625 }
-    ensures search { OnOk result (IsSearch T.places T.value_of T.size_of T.fits T.start_of terms.now
-        (length sizes.now) search.new) }
+    ensures search { OnOk result (IsSearch T.Term terms.now (length sizes.now) search.new) }
     ensures least { IfOk result (λ r. IsLeast (meanings T.places T.value_of terms.now)
         (length sizes.now) slope.den (sized_shift sizes.now slope.num) r.set) }
     ensures worth { IfOk result (IsWorth (meanings T.places T.value_of terms.now) sizes.now) }
@@ -136,11 +130,9 @@ fn least_from_first<T: Term>(
     slope: Slope,
 ) -> Result<Worth, Memory>
     requires sizes { AreElementSizes (length sizes.now) sizes.now }
-    requires search { IsSearch T.places T.value_of T.size_of T.fits T.start_of terms.now
-        (length sizes.now) search.old }
+    requires search { IsSearch T.Term terms.now (length sizes.now) search.old }
     requires small { IsAtMost (10 ^ 19) slope.num }
-    ensures search { OnOk result (IsSearch T.places T.value_of T.size_of T.fits T.start_of terms.now
-        (length sizes.now) search.new) }
+    ensures search { OnOk result (IsSearch T.Term terms.now (length sizes.now) search.new) }
     ensures least { IfOk result (λ r. IsLeast (meanings T.places T.value_of terms.now)
         (length sizes.now) slope.den (sized_shift sizes.now slope.num) r.set) }
     ensures worth { IfOk result (IsWorth (meanings T.places T.value_of terms.now) sizes.now) }
@@ -164,12 +156,10 @@ fn multiply_warm<T: Term>(
 ) -> Result<(), Memory>
     requires factor { IsFactor q }
     requires few { q ≤ℤ pos 15625 }
-    requires search { IsSearch T.places T.value_of T.size_of T.fits T.start_of terms.now
-        (length _sizes.now) search.old }
-    ensures search { OnOk result (IsSearch T.places T.value_of T.size_of T.fits T.start_of terms.now
-        (length _sizes.now) search.new) }
-    ensures graph { OnOk result (IsClaimed T.places T.value_of T.size_of T.fits terms.now
-        (length _sizes.now) (q *ℤ pos 64) search.new.cold) }
+    requires search { IsSearch T.Term terms.now (length _sizes.now) search.old }
+    ensures search { OnOk result (IsSearch T.Term terms.now (length _sizes.now) search.new) }
+    ensures graph { OnOk result (IsClaimed T.Term terms.now (length _sizes.now) (q *ℤ pos 64)
+        search.new.cold) }
     ensures small { OnOk result (All (λ x. All (IsAtMost (10 ^ 25)) x) search.new.cold.bases) }
 {
     let alloc = search.alloc;
@@ -192,13 +182,11 @@ fn keep_small<T: Term>(
     terms: &[T],
     first: &Graph<T::Note>,
 ) -> Result<(), Memory>
-    requires graph { IsClaimed T.places T.value_of T.size_of T.fits terms.now
-        (length graph.old.spots.items) (pos 64) graph.old }
-    requires first { IsClaimed T.places T.value_of T.size_of T.fits terms.now
-        (length graph.old.spots.items) (pos 1) first.now }
+    requires graph { IsClaimed T.Term terms.now (length graph.old.spots.items) (pos 64) graph.old }
+    requires first { IsClaimed T.Term terms.now (length graph.old.spots.items) (pos 1) first.now }
     requires begins { first.now.bases ≡ map (λ term. T.start_of term (pos 1)) terms.now }
-    ensures graph { OnOk result (IsClaimed T.places T.value_of T.size_of T.fits terms.now
-        (length graph.old.spots.items) (pos 64) graph.new) }
+    ensures graph { OnOk result (IsClaimed T.Term terms.now (length graph.old.spots.items) (pos 64)
+        graph.new) }
     ensures small { OnOk result (All (λ x. All (IsAtMost (10 ^ 25)) x) graph.new.bases) }
 {
     if are_small(&graph.bases, 10_000_000_000_000_000_000_000_000) {
@@ -217,11 +205,9 @@ fn least_by<T: Term>(
     shift: &[i128],
 ) -> Result<Attained, Memory>
     requires shifts { magnitudes shift.now ≤ℤ pos (10 ^ 27) }
-    requires graph { IsClaimed T.places T.value_of T.size_of T.fits terms.now
-        (length shift.now) q graph.old }
+    requires graph { IsClaimed T.Term terms.now (length shift.now) q graph.old }
     requires small { All (λ x. All (IsAtMost (10 ^ 25)) x) graph.old.bases }
-    ensures graph { OnOk result (IsClaimed T.places T.value_of T.size_of T.fits terms.now
-        (length shift.now) q graph.new) }
+    ensures graph { OnOk result (IsClaimed T.Term terms.now (length shift.now) q graph.new) }
     ensures least { IfOk result (λ r. IsLeast (meanings T.places T.value_of terms.now)
         (length shift.now) q shift.now r.set) }
     ensures value { IfOk result (λ r. r.value

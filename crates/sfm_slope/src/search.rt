@@ -53,7 +53,7 @@ impl<N> Search<N> {
     /// `Memory` where there is none.
     pub fn new<T: Term<Note = N>>(alloc: Global, terms: &[T], n: usize) -> Result<Search<N>, Memory>
         requires bounded { AreBounded n (map T.places terms.now) (map T.size_of terms.now) }
-        ensures { IfOk result (IsSearch T.places T.value_of T.size_of T.fits T.start_of terms.now n) }
+        ensures { IfOk result (IsSearch T.Term terms.now n) }
     {
         let shift = vec![in alloc; 0i128; n]?;
         let first = graph_at(alloc, terms, n, 1, first_rows(alloc, terms)?)?;
@@ -74,10 +74,9 @@ impl<N> Search<N> {
     ///
     /// `Memory` where there is none.
     pub fn optimum<T: Term<Note = N>>(&mut self, terms: &[T]) -> Result<Rows, Memory>
-        requires search { IsSearch T.places T.value_of T.size_of T.fits T.start_of terms.now
-            (length self.old.shift.items) self.old }
-        ensures search { OnOk result (IsSearch T.places T.value_of T.size_of T.fits T.start_of
-            terms.now (length self.old.shift.items) self.new) }
+        requires search { IsSearch T.Term terms.now (length self.old.shift.items) self.old }
+        ensures search { OnOk result (IsSearch T.Term terms.now (length self.old.shift.items)
+            self.new) }
         ensures bases { IfOk result (AreBases (pos 1) (meanings T.places T.value_of terms.now)) }
         ensures small { IfOk result (λ r. All (λ x. All IsEntry x) r) }
         ensures proves { IfOk result (Prove (meanings T.places T.value_of terms.now)

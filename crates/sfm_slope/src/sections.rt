@@ -23,8 +23,7 @@ pub fn sections<T: Term>(
     found: &[Breakpoint],
 ) -> Result<Vec<Break>, Memory>
     requires sizes { AreElementSizes (length sizes.now) sizes.now }
-    requires search { IsSearch T.places T.value_of T.size_of T.fits T.start_of terms.now
-        (length sizes.now) search.old }
+    requires search { IsSearch T.Term terms.now (length sizes.now) search.old }
     requires ranges { All (IsInRange sizes.now) found.now }
     ensures marks { IfOk result (λ r. map mark_of r.items ≡ map found_mark found.now) }
     ensures bases { IfOk result (λ r. All (HasBasesBy (meanings T.places T.value_of terms.now)
@@ -68,14 +67,12 @@ pub fn each_section<T: Term>(
     breaks: &mut Vec<Break>,
 ) -> Result<(), Memory>
     requires sizes { AreElementSizes (length sizes.now) sizes.now }
-    requires search { IsSearch T.places T.value_of T.size_of T.fits T.start_of terms.now
-        (length sizes.now) search.old }
+    requires search { IsSearch T.Term terms.now (length sizes.now) search.old }
     requires ranges { All (IsInRange sizes.now) found.now }
     requires before { All (HasBasesBy (meanings T.places T.value_of terms.now)
         (λ q. map (λ term. T.start_of term q) terms.now) (length sizes.now) sizes.now)
         breaks.old.items }
-    ensures search { OnOk result (IsSearch T.places T.value_of T.size_of T.fits T.start_of terms.now
-        (length sizes.now) search.new) }
+    ensures search { OnOk result (IsSearch T.Term terms.now (length sizes.now) search.new) }
     ensures marks { OnOk result (map mark_of breaks.new.items
         ≡ map mark_of breaks.old.items ++ map found_mark found.now) }
     ensures bases { OnOk result (All (HasBasesBy (meanings T.places T.value_of terms.now)
@@ -100,11 +97,9 @@ pub fn section<T: Term>(
     point: &Breakpoint,
 ) -> Result<Break, Memory>
     requires sizes { AreElementSizes (length sizes.now) sizes.now }
-    requires search { IsSearch T.places T.value_of T.size_of T.fits T.start_of terms.now
-        (length sizes.now) search.old }
+    requires search { IsSearch T.Term terms.now (length sizes.now) search.old }
     requires range { IsInRange sizes.now point.now }
-    ensures search { OnOk result (IsSearch T.places T.value_of T.size_of T.fits T.start_of terms.now
-        (length sizes.now) search.new) }
+    ensures search { OnOk result (IsSearch T.Term terms.now (length sizes.now) search.new) }
     ensures mark { IfOk result (λ r. mark_of r ≡ found_mark point.now) }
     ensures bases { IfOk result (HasBasesBy (meanings T.places T.value_of terms.now)
         (λ q. map (λ term. T.start_of term q) terms.now) (length sizes.now) sizes.now) }

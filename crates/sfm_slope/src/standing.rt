@@ -42,11 +42,9 @@ pub fn first_standing<T: Term>(
     _found: &[Breakpoint],
     first: &Graph<T::Note>,
 ) -> Result<Standing<T::Note>, Memory>
-    requires first { IsClaimed T.places T.value_of T.size_of T.fits terms.now (length sizes.now)
-        (pos 1) first.now }
+    requires first { IsClaimed T.Term terms.now (length sizes.now) (pos 1) first.now }
     requires begins { first.now.bases ≡ map (λ term. T.start_of term (pos 1)) terms.now }
-    ensures { IfOk result (IsStanding T.places T.value_of T.size_of T.fits T.start_of terms.now
-        sizes.now _found.now) }
+    ensures { IfOk result (IsStanding T.Term terms.now sizes.now _found.now) }
 {
     let graph = graph_by(alloc, terms, sizes.len(), 1, first)?;
     Ok(Standing { graph, walks: 0 })
@@ -64,11 +62,9 @@ pub fn copy_standing<T: Term>(
     _found: &[Breakpoint],
     at: &Standing<T::Note>,
 ) -> Result<Standing<T::Note>, Memory>
-    requires standing { IsStanding T.places T.value_of T.size_of T.fits T.start_of terms.now
-        sizes.now _found.now at.now }
+    requires standing { IsStanding T.Term terms.now sizes.now _found.now at.now }
     requires small { All (λ x. All (IsAtMost (10 ^ 21)) x) at.now.graph.bases }
-    ensures { IfOk result (IsStanding T.places T.value_of T.size_of T.fits T.start_of terms.now
-        sizes.now _found.now) }
+    ensures { IfOk result (IsStanding T.Term terms.now sizes.now _found.now) }
 {
     let graph = graph_by(alloc, terms, sizes.len(), 1, &at.graph)?;
     Ok(Standing {
@@ -95,10 +91,8 @@ pub fn stage_over<T: Term>(
     requires ranges { All (IsInRange sizes.now) found.now }
     requires small { All (λ x. All (IsAtMost (10 ^ 25)) x) at.old.graph.bases }
     requires few { at.old.walks ≤ 10 ^ 12 }
-    requires standing { IsStanding T.places T.value_of T.size_of T.fits T.start_of terms.now
-        sizes.now found.now at.old }
-    ensures { OnOk result (IsStanding T.places T.value_of T.size_of T.fits T.start_of terms.now
-        sizes.now found.now at.new) }
+    requires standing { IsStanding T.Term terms.now sizes.now found.now at.old }
+    ensures { OnOk result (IsStanding T.Term terms.now sizes.now found.now at.new) }
 {
     let low = shift_by(alloc, sizes, floor_of(found, sizes))?;
     let high = shift_by(alloc, sizes, ceiling_of(found, sizes))?;

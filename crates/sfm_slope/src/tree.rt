@@ -34,16 +34,13 @@ pub fn branch<T: Term>(
     breaks: &mut Vec<Break>,
 ) -> Result<(), Memory>
     requires sizes { AreElementSizes (length sizes.now) sizes.now }
-    requires search { IsSearch T.places T.value_of T.size_of T.fits T.start_of terms.now
-        (length sizes.now) search.old }
+    requires search { IsSearch T.Term terms.now (length sizes.now) search.old }
     requires ranges { All (IsInRange sizes.now) found.now }
-    requires standing { IsStanding T.places T.value_of T.size_of T.fits T.start_of terms.now
-        sizes.now found.now at }
+    requires standing { IsStanding T.Term terms.now sizes.now found.now at }
     requires before { All (HasBasesBy (meanings T.places T.value_of terms.now)
         (λ q. map (λ term. T.start_of term q) terms.now) (length sizes.now) sizes.now)
         breaks.old.items }
-    ensures search { OnOk result (IsSearch T.places T.value_of T.size_of T.fits T.start_of terms.now
-        (length sizes.now) search.new) }
+    ensures search { OnOk result (IsSearch T.Term terms.now (length sizes.now) search.new) }
     ensures marks { OnOk result (map mark_of breaks.new.items
         ≡ map mark_of breaks.old.items ++ map found_mark found.now) }
     ensures bases { OnOk result (All (HasBasesBy (meanings T.places T.value_of terms.now)
@@ -82,16 +79,13 @@ fn leaves<T: Term>(
     breaks: &mut Vec<Break>,
 ) -> Result<(), Memory>
     requires sizes { AreElementSizes (length sizes.now) sizes.now }
-    requires search { IsSearch T.places T.value_of T.size_of T.fits T.start_of terms.now
-        (length sizes.now) search.old }
+    requires search { IsSearch T.Term terms.now (length sizes.now) search.old }
     requires ranges { All (IsInRange sizes.now) found.now }
-    requires standing { IsStanding T.places T.value_of T.size_of T.fits T.start_of terms.now
-        sizes.now found.now at.now }
+    requires standing { IsStanding T.Term terms.now sizes.now found.now at.now }
     requires before { All (HasBasesBy (meanings T.places T.value_of terms.now)
         (λ q. map (λ term. T.start_of term q) terms.now) (length sizes.now) sizes.now)
         breaks.old.items }
-    ensures search { OnOk result (IsSearch T.places T.value_of T.size_of T.fits T.start_of terms.now
-        (length sizes.now) search.new) }
+    ensures search { OnOk result (IsSearch T.Term terms.now (length sizes.now) search.new) }
     ensures marks { OnOk result (map mark_of breaks.new.items
         ≡ map mark_of breaks.old.items ++ map found_mark found.now) }
     ensures bases { OnOk result (All (HasBasesBy (meanings T.places T.value_of terms.now)
@@ -116,14 +110,11 @@ fn leaf<T: Term>(
     at: &Standing<T::Note>,
 ) -> Result<Break, Memory>
     requires sizes { AreElementSizes (length sizes.now) sizes.now }
-    requires search { IsSearch T.places T.value_of T.size_of T.fits T.start_of terms.now
-        (length sizes.now) search.old }
+    requires search { IsSearch T.Term terms.now (length sizes.now) search.old }
     requires range { IsInRange sizes.now point.now }
-    requires standing { IsStanding T.places T.value_of T.size_of T.fits T.start_of terms.now
-        sizes.now (point.now ∷ []) at.now }
+    requires standing { IsStanding T.Term terms.now sizes.now (point.now ∷ []) at.now }
     requires small { All (λ x. All (IsAtMost (10 ^ 19)) x) at.now.graph.bases }
-    ensures search { OnOk result (IsSearch T.places T.value_of T.size_of T.fits T.start_of terms.now
-        (length sizes.now) search.new) }
+    ensures search { OnOk result (IsSearch T.Term terms.now (length sizes.now) search.new) }
     ensures mark { IfOk result (λ r. mark_of r ≡ found_mark point.now) }
     ensures bases { IfOk result (HasBasesBy (meanings T.places T.value_of terms.now)
         (λ q. map (λ term. T.start_of term q) terms.now) (length sizes.now) sizes.now) }
@@ -146,18 +137,15 @@ fn walk_on<T: Term>(
     at: &Standing<T::Note>,
 ) -> Result<Option<Rows>, Memory>
     requires sizes { AreElementSizes (length sizes.now) sizes.now }
-    requires search { IsSearch T.places T.value_of T.size_of T.fits T.start_of terms.now
-        (length sizes.now) search.old }
+    requires search { IsSearch T.Term terms.now (length sizes.now) search.old }
     requires range { IsAtMost (10 ^ 19) slope.num }
-    requires standing { (found : _) × IsStanding T.places T.value_of T.size_of T.fits T.start_of
-        terms.now sizes.now found at.now }
+    requires standing { (found : _) × IsStanding T.Term terms.now sizes.now found at.now }
     requires chain { IsWalkChain (meanings T.places T.value_of terms.now) slope.den
         (sized_shift sizes.now slope.num) at.now.walks
         (map (λ term. T.start_of term slope.den) terms.now)
         (rows_times slope.den at.now.graph.bases) }
     requires small { All (λ x. All (IsAtMost (10 ^ 19)) x) at.now.graph.bases }
-    ensures search { OnOk result (IsSearch T.places T.value_of T.size_of T.fits T.start_of terms.now
-        (length sizes.now) search.new) }
+    ensures search { OnOk result (IsSearch T.Term terms.now (length sizes.now) search.new) }
     ensures section { IfOk result (λ r. IfSome r (IsSection
         (meanings T.places T.value_of terms.now) (map (λ term. T.start_of term slope.den) terms.now)
         (length sizes.now) slope.den (sized_shift sizes.now slope.num))) }

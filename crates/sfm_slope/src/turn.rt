@@ -39,16 +39,14 @@ pub fn take_turn<T: Term>(
     high: &Worth,
 ) -> Result<Turn, Memory>
     requires sizes { AreElementSizes (length sizes.now) sizes.now }
-    requires search { IsSearch T.places T.value_of T.size_of T.fits T.start_of terms.now
-        (length sizes.now) search.old }
+    requires search { IsSearch T.Term terms.now (length sizes.now) search.old }
     requires begun { IsBegun (meanings T.places T.value_of terms.now)
         (length sizes.now) sizes.now low.now.set }
     requires gap { IsGap (meanings T.places T.value_of terms.now)
         (length sizes.now) sizes.now low.now.set high.now.set }
     requires low_worth { IsWorth (meanings T.places T.value_of terms.now) sizes.now low.now }
     requires high_worth { IsWorth (meanings T.places T.value_of terms.now) sizes.now high.now }
-    ensures search { OnOk result (IsSearch T.places T.value_of T.size_of T.fits T.start_of terms.now
-        (length sizes.now) search.new) }
+    ensures search { OnOk result (IsSearch T.Term terms.now (length sizes.now) search.new) }
     ensures turn { IfOk result (IsTurn (meanings T.places T.value_of terms.now)
         (length sizes.now) sizes.now low.now.set high.now.set) }
 {

@@ -33,14 +33,12 @@ pub fn run_stage<T: Term>(
     high: &[i128],
     most: u64,
 ) -> Result<u64, Memory>
-    requires graph { IsClaimed T.places T.value_of T.size_of T.fits terms.now
-        (length low.now) (pos 1) graph.old }
+    requires graph { IsClaimed T.Term terms.now (length low.now) (pos 1) graph.old }
     requires small { All (λ x. All (IsAtMost (10 ^ 25)) x) graph.old.bases }
     requires order { AreOrdered low.now high.now }
     requires low { magnitudes low.now ≤ℤ pos (10 ^ 36) }
     requires high { magnitudes high.now ≤ℤ pos (10 ^ 36) }
-    ensures graph { OnOk result (IsClaimed T.places T.value_of T.size_of T.fits terms.now
-        (length low.now) (pos 1) graph.new) }
+    ensures graph { OnOk result (IsClaimed T.Term terms.now (length low.now) (pos 1) graph.new) }
     ensures small { OnOk result (All (λ x. All IsEntry x) graph.new.bases) }
     ensures few { IfOk result (λ t. t ≤ 10 ^ 8) }
     ensures most { IfOk result (λ t. t ≤ most) }
@@ -69,14 +67,12 @@ fn look<T: Term>(
     _high: &[i128],
     kept: &mut Kept,
 ) -> Result<Option<u64>, Memory>
-    requires graph { IsClaimed T.places T.value_of T.size_of T.fits terms.now
-        (length _low.now) (pos 1) graph.old }
+    requires graph { IsClaimed T.Term terms.now (length _low.now) (pos 1) graph.old }
     requires small { All (λ x. All (IsAtMost (10 ^ 29)) x) graph.old.bases }
     requires order { AreOrdered _low.now _high.now }
     requires kept { IsKept (meanings T.places T.value_of terms.now) _low.now _high.now
         graph.old.bases kept.old }
-    ensures graph { OnOk result (IsClaimed T.places T.value_of T.size_of T.fits terms.now
-        (length _low.now) (pos 1) graph.new) }
+    ensures graph { OnOk result (IsClaimed T.Term terms.now (length _low.now) (pos 1) graph.new) }
     ensures kept { OnOk result (IsKept (meanings T.places T.value_of terms.now) _low.now
         _high.now graph.new.bases kept.new) }
     ensures few { IfOk result (λ r. unwrap_or r 0 ≤ 1) }
@@ -106,8 +102,7 @@ fn seek<T: Term>(
     _high: &[i128],
     kept: &mut Kept,
 ) -> Result<Option<bool>, Memory>
-    requires graph { IsClaimed T.places T.value_of T.size_of T.fits terms.now
-        (length _low.now) (pos 1) graph.now }
+    requires graph { IsClaimed T.Term terms.now (length _low.now) (pos 1) graph.now }
     requires kept { IsKept (meanings T.places T.value_of terms.now) _low.now _high.now
         graph.now.bases kept.old }
     ensures kept { OnOk result (IsKept (meanings T.places T.value_of terms.now) _low.now
@@ -152,16 +147,14 @@ fn advance<T: Term>(
     _high: &[i128],
     kept: &mut Kept,
 ) -> Result<(), Memory>
-    requires graph { IsClaimed T.places T.value_of T.size_of T.fits terms.now
-        (length _low.now) (pos 1) graph.old }
+    requires graph { IsClaimed T.Term terms.now (length _low.now) (pos 1) graph.old }
     requires small { All (λ x. All (IsAtMost (10 ^ 29)) x) graph.old.bases }
     requires order { AreOrdered _low.now _high.now }
     requires kept { IsKept (meanings T.places T.value_of terms.now) _low.now _high.now
         graph.old.bases kept.old }
     requires course { IsCourse (meanings T.places T.value_of terms.now) _low.now
         graph.old.bases kept.old }
-    ensures graph { OnOk result (IsClaimed T.places T.value_of T.size_of T.fits terms.now
-        (length _low.now) (pos 1) graph.new) }
+    ensures graph { OnOk result (IsClaimed T.Term terms.now (length _low.now) (pos 1) graph.new) }
     ensures kept { OnOk result (IsKept (meanings T.places T.value_of terms.now) _low.now
         _high.now graph.new.bases kept.new) }
     ensures serving { OnOk result (IsServing (meanings T.places T.value_of terms.now)

@@ -35,11 +35,9 @@ pub fn improve<T: Term>(
 ) -> Result<Numbers, Memory>
     requires room { steps.old < 2 ^ 63 }
     requires shifts { magnitudes shift.now ≤ℤ pos (10 ^ 27) }
-    requires graph { IsClaimed T.places T.value_of T.size_of T.fits terms.now
-        (length shift.now) q graph.old }
+    requires graph { IsClaimed T.Term terms.now (length shift.now) q graph.old }
     requires small { All (λ x. All (IsAtMost (10 ^ 25)) x) graph.old.bases }
-    ensures graph { OnOk result (IsClaimed T.places T.value_of T.size_of T.fits terms.now
-        (length shift.now) q graph.new) }
+    ensures graph { OnOk result (IsClaimed T.Term terms.now (length shift.now) q graph.new) }
     ensures bases { OnOk result (AreBases q (meanings T.places T.value_of terms.now)
         graph.new.bases) }
     ensures small { OnOk result (All (λ x. All IsEntry x) graph.new.bases) }
@@ -76,13 +74,11 @@ pub fn improve_from<T: Term>(
 ) -> Result<Numbers, Memory>
     requires room { steps.old < 2 ^ 63 }
     requires shifts { magnitudes shift.now ≤ℤ pos (10 ^ 27) }
-    requires graph { IsClaimed T.places T.value_of T.size_of T.fits terms.now
-        (length shift.now) q graph.old }
+    requires graph { IsClaimed T.Term terms.now (length shift.now) q graph.old }
     requires small { All (λ x. All (IsAtMost (10 ^ 29)) x) graph.old.bases }
     requires gap { neg_ℤ (pos (4 * 10 ^ 29)) ≤ℤ deficit (length shift.now)
         (rest_at (meanings T.places T.value_of terms.now) graph.old.bases shift.now) }
-    ensures graph { OnOk result (IsClaimed T.places T.value_of T.size_of T.fits terms.now
-        (length shift.now) q graph.new) }
+    ensures graph { OnOk result (IsClaimed T.Term terms.now (length shift.now) q graph.new) }
     ensures bases { OnOk result (AreBases q (meanings T.places T.value_of terms.now)
         graph.new.bases) }
     ensures small { OnOk result (All (λ x. All IsEntry x) graph.new.bases) }
@@ -119,8 +115,7 @@ fn advance<T: Term>(
     _shift: &[i128],
     run: &mut Run,
 ) -> Result<(), Memory>
-    requires graph { IsClaimed T.places T.value_of T.size_of T.fits terms.now
-        (length _shift.now) q graph.old }
+    requires graph { IsClaimed T.Term terms.now (length _shift.now) q graph.old }
     requires shifts { magnitudes _shift.now ≤ℤ pos (10 ^ 27) }
     requires run { IsRunAt (meanings T.places T.value_of terms.now) _shift.now graph.old.bases
         run.old }
@@ -132,8 +127,7 @@ fn advance<T: Term>(
     requires small { All (λ x. All (IsAtMost (5 * 10 ^ 29)) x) graph.old.bases }
     requires gap { neg_ℤ (pos (5 * 10 ^ 29)) ≤ℤ deficit (length _shift.now)
         (rest_at (meanings T.places T.value_of terms.now) graph.old.bases _shift.now) }
-    ensures graph { OnOk result (IsClaimed T.places T.value_of T.size_of T.fits terms.now
-        (length _shift.now) q graph.new) }
+    ensures graph { OnOk result (IsClaimed T.Term terms.now (length _shift.now) q graph.new) }
     ensures advanced { OnOk result (AreAdvanced (meanings T.places T.value_of terms.now)
         (length _shift.now) q _shift.now graph.old.bases graph.new.bases run.new) }
     ensures labels { OnOk result (AreLabels (meanings T.places T.value_of terms.now)

@@ -75,15 +75,13 @@ pub fn kept_walk<T: Term>(
     _shift: &[i128],
     run: &mut Run,
 ) -> Result<bool, Memory>
-    requires graph { IsClaimed T.places T.value_of T.size_of T.fits terms.now
-        (length _shift.now) q graph.old }
+    requires graph { IsClaimed T.Term terms.now (length _shift.now) q graph.old }
     requires small { All (λ x. All IsEntry x) graph.old.bases }
     requires run { IsRunAt (meanings T.places T.value_of terms.now) _shift.now graph.old.bases
         run.old }
     requires labels { AreLabels (meanings T.places T.value_of terms.now)
         (length _shift.now) q _shift.now graph.old.bases run.old.levels.items }
-    ensures graph { OnOk result (IsClaimed T.places T.value_of T.size_of T.fits terms.now
-        (length _shift.now) q graph.new) }
+    ensures graph { OnOk result (IsClaimed T.Term terms.now (length _shift.now) q graph.new) }
     ensures bases { OnOk result (graph.new.bases ≡ graph.old.bases) }
     ensures run { OnOk result (IsRunAt (meanings T.places T.value_of terms.now) _shift.now
         graph.old.bases run.new) }

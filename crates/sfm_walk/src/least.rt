@@ -23,16 +23,14 @@ pub fn least_minimiser<T: Term>(
     shift: &[i128],
     z: &Numbers,
 ) -> Result<Set, Memory>
-    requires graph { IsClaimed T.places T.value_of T.size_of T.fits terms.now
-        (length shift.now) q graph.old }
+    requires graph { IsClaimed T.Term terms.now (length shift.now) q graph.old }
     requires small { All (λ x. All IsEntry x) graph.old.bases }
     requires rest { (length z.now ≡ length shift.now) × ((e : ℕ) → e < length shift.now
         → slice_index_or z.now e (pos 0) ≡ rest_at
         (meanings T.places T.value_of terms.now) graph.old.bases shift.now e) }
     requires proves { Prove (meanings T.places T.value_of terms.now)
         (length shift.now) q shift.now graph.old.bases }
-    ensures graph { OnOk result (IsClaimed T.places T.value_of T.size_of T.fits terms.now
-        (length shift.now) q graph.new) }
+    ensures graph { OnOk result (IsClaimed T.Term terms.now (length shift.now) q graph.new) }
     ensures bases { OnOk result (graph.new.bases ≡ graph.old.bases) }
     ensures least { IfOk result (IsLeast (meanings T.places T.value_of terms.now)
         (length shift.now) q shift.now) }

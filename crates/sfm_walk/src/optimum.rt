@@ -241,12 +241,10 @@ pub fn minimise_from_start<T: Term>(
         (map T.size_of terms.now) }
     requires shifts { magnitudes shift.now ≤ℤ pos (10 ^ 27) }
     requires factor { IsFactor q }
-    requires graph { IsShaped T.places T.value_of terms.now (length shift.now) graph.old }
-    requires firsts { IsClaimed T.places T.value_of T.size_of T.fits terms.now (length shift.now)
-        (pos 1) firsts.now }
+    requires graph { IsShaped T.Term terms.now (length shift.now) graph.old }
+    requires firsts { IsClaimed T.Term terms.now (length shift.now) (pos 1) firsts.now }
     requires begins { firsts.now.bases ≡ map (λ term. T.start_of term (pos 1)) terms.now }
-    ensures graph { OnOk result (IsShaped T.places T.value_of terms.now
-        (length shift.now) graph.new) }
+    ensures graph { OnOk result (IsShaped T.Term terms.now (length shift.now) graph.new) }
     ensures bases { IfOk result (AreBases q (meanings T.places T.value_of terms.now)) }
     ensures small { IfOk result (All (λ x. All IsEntry x)) }
     ensures ends { IfOk result (λ r. (first : ℕ) (steps : List Step)

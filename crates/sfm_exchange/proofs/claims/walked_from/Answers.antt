@@ -16,7 +16,7 @@ use Rattle.sfm_exchange.proofs.claims.walked_from.Goals as goal
 use Rattle.sfm_exchange.proofs.claims.walked_from.Goals.{After-take_in}
 
 -- the graph afterwards is one at the bases of the one before
-after : (g : given.Over) (c : After-take_in g) → let t = g.T.Term in IsStill t.places t.value_of t.size_of t.fits c.args.terms.now c.args.q c.args.graph.now c.ask_place.new.graph
+after : (g : given.Over) (c : After-take_in g) → let t = g.T.Term in IsStill t c.args.terms.now c.args.q c.args.graph.now c.ask_place.new.graph
 after g c =
     let fq : FitsSigned w128 c.args.q = c.ranges.q in
     let inv = simp to_z-of_z at c.loop-e.invariant in

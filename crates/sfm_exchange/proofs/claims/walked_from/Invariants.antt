@@ -8,7 +8,7 @@ use Rattle.sfm_reach.proofs.Searching.{IsSearching, work}
 use Rattle.sfm_exchange.proofs.claims.walked_from.Given as goal
 
 abbrev pub invariant-loop-e : goal.invariant-loop-e
-invariant-loop-e g l = let t = g.T.Term in IsStill t.places t.value_of t.size_of t.fits l.terms l.q l.initial.graph l.graph
+invariant-loop-e g l = let t = g.T.Term in IsStill t l.terms l.q l.initial.graph l.graph
     × IsSearching (length l.initial.graph.spots.items) (IsArc (meanings t.places t.value_of l.terms) l.q l.initial.graph.bases) l.firsts l.found l.ahead
 
 abbrev pub decreases-loop-e : goal.decreases-loop-e

@@ -10,7 +10,7 @@ use Rattle.sfm_extreme.proofs.grouping.blocks.Goals.{In_ok-reading}
 
 -- what was read off the bases, with no shift
 reads : (g : given.Over) (c : In_ok-reading g) → let t = g.T.Term in
-    IsReading t.places t.value_of t.size_of t.fits c.args.terms.now c.args.n (pos 1) (replicate c.args.n (pos 0)) c.in_ok-reading.reading
+    IsReading t c.args.terms.now c.args.n (pos 1) (replicate c.args.n (pos 0)) c.in_ok-reading.reading
 reads g c =
     let n = c.args.n in
     let same : c.deref.result.now ≡ replicate n (pos 0) = search rules in

@@ -14,7 +14,7 @@ use Rattle.sfm_extreme.proofs.reading.read_at.Goals as goal
 use Rattle.sfm_extreme.proofs.reading.read_at.Goals.{After-signs_of-signs}
 
 -- the graph is whole
-whole : (g : given.Over) (c : After-signs_of-signs g) → let t = g.T.Term in IsWhole t.places t.value_of t.size_of t.fits c.args.terms.now (length c.args.shift.now) c.args.q c.in_ok-graph.graph
+whole : (g : given.Over) (c : After-signs_of-signs g) → let t = g.T.Term in IsWhole t c.args.terms.now (length c.args.shift.now) c.args.q c.in_ok-graph.graph
 whole g c = let fq : FitsSigned w128 c.args.q = c.ranges.q in record { bounded = c.requires.bounded; factor = c.requires.factor; exact = simp to_z-of_z at c.in_ok-graph.ensures.graph }
 
 -- z is what its bases leave of the shift

@@ -12,7 +12,7 @@ invariant-loop-a g l =
     let t = g.T.Term in
     let ts = meanings t.places t.value_of l.terms in
     let before = l.initial.graph.bases in
-    IsLevelling t.places t.value_of t.size_of t.fits l.terms l.n l.graph
+    IsLevelling t l.terms l.n l.graph
     × (squares_at ts l.n l.graph.bases ≤ℤ squares_at ts l.n before)
     × (l.moved ≡ true → squares_at ts l.n l.graph.bases <ℤ squares_at ts l.n before)
     × (l.moved ≡ false → (l.graph.bases ≡ before)

@@ -28,7 +28,7 @@ guide-requires g c =
       factor = record { low = omega (arith, ints); high = omega (arith, ints) };
       exact = c.in_ok-graph.ensures.graph;
     }) in
-    levelling_begun t.places t.value_of t.size_of t.fits (λ x. t.start_of x (pos 1))
+    levelling_begun t (λ x. t.start_of x (pos 1))
     (size_low t.places t.value_of t.size_of m.submodular m.bounded)
     (λ x. m.starts_small x (pos 1) (omega (arith, ints))) c.args.terms.now c.args.n
     c.in_ok-graph.graph claimed (c.in_ok-graph.ensures.bases ∙ c.in_ok-first_bases.ensures.starts)

@@ -7,7 +7,7 @@ use Rattle.sfm_level.proofs.passes.level_rows.Given as goal
 -- the graph is one at bases that are levelled
 abbrev pub invariant-loop-graph : goal.invariant-loop-graph
 invariant-loop-graph g l =
-    let t = g.T.Term in IsLevelling t.places t.value_of t.size_of t.fits l.terms l.n l.graph
+    let t = g.T.Term in IsLevelling t l.terms l.n l.graph
 
 -- the squares of their sum fall
 abbrev pub decreases-loop-graph : goal.decreases-loop-graph

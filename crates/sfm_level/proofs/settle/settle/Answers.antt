@@ -68,7 +68,7 @@ returns-clause-graph g c =
     let k = counted g d.In_ok-z in
     let after = c.improve_from.new.graph in
     levelling_after c.requires.graph (fit g d.In_ok-z) c.args.t k.0 after k.2
-    (even g d.In_ok-z (λ n shift. IsClaimed t.places t.value_of t.size_of t.fits c.args.terms.now n
+    (even g d.In_ok-z (λ n shift. IsClaimed t c.args.terms.now n
     (pos 1) after) c.in_ok-z.ensures.graph)
     (even g d.In_ok-z (λ n shift. AreSpread ts n shift c.args.graph.now.bases after.bases)
     c.in_ok-z.ensures.spread)

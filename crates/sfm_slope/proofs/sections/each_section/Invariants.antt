@@ -9,7 +9,7 @@ use Rattle.sfm_slope.proofs.sections.each_section.Given as goal
 
 abbrev pub invariant-loop-point : goal.invariant-loop-point
 invariant-loop-point g l = let t = g.T.Term in record {
-  search : IsSearch t.places t.value_of t.size_of t.fits t.start_of l.terms (length l.sizes) l.search;
+  search : IsSearch t l.terms (length l.sizes) l.search;
   marks : map mark_of l.breaks.items ≡ map mark_of l.initial.breaks.items ++ map found_mark (take l.point-index l.found);
   bases : All (HasBasesBy (meanings t.places t.value_of l.terms) (λ q. map (λ term. t.start_of term q) l.terms) (length l.sizes) l.sizes) l.breaks.items;
 }

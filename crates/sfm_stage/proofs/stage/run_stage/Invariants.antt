@@ -8,7 +8,7 @@ use Rattle.sfm_stage.proofs.stage.run_stage.Given as goal
 
 abbrev pub invariant-loop : goal.invariant-loop
 invariant-loop g l = let t = g.T.Term in let ts = meanings t.places t.value_of l.terms in
-    IsClaimed t.places t.value_of t.size_of t.fits l.terms (length l.low) (pos 1) l.graph
+    IsClaimed t l.terms (length l.low) (pos 1) l.graph
     × IsKept ts l.low l.high l.graph.bases l.kept
     × IsServing ts l.low l.high l.walks l.initial.graph.bases l.graph.bases
     × (l.walks ≤ l.counter)

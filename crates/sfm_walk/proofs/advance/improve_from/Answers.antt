@@ -35,7 +35,7 @@ loop-run-init g c =
     let z_is = c.run_at-run.ensures.z in
     let z = c.in_ok-z.ensures in
     let is_rest : IsRest ts shift init c.in_ok-z.z.items = rest_is r.graph.are_sums z.places (rw c.deref.ensures.value at z.exact) in
-    let start : IsImproving t.places t.value_of t.size_of t.fits c.args.terms.now c.args.q shift init c.args.graph.now c.run_at-run.result = record {
+    let start : IsImproving t c.args.terms.now c.args.q shift init c.args.graph.now c.run_at-run.result = record {
       whole = r.graph;
       at = record { is_rest = rw z_is is_rest; signs = rw z_is c.run_at-run.ensures.signs };
       gap = r.gap;

@@ -8,7 +8,7 @@ use Rattle.sfm_walk.proofs.Improving.{IsImproving}
 use Rattle.sfm_walk.proofs.advance.improve_from.Given as goal
 
 abbrev pub invariant-loop-run : goal.invariant-loop-run
-invariant-loop-run g l = let t = g.T.Term in IsImproving t.places t.value_of t.size_of t.fits l.terms l.q l.shift l.initial.graph.bases l.graph l.run
+invariant-loop-run g l = let t = g.T.Term in IsImproving t l.terms l.q l.shift l.initial.graph.bases l.graph l.run
     × (l.initial.steps ≤ l.steps)
     × IsCounting (meanings t.places t.value_of l.terms) (length l.shift) l.q l.shift l.initial.graph.bases l.graph.bases l.initial.steps l.steps
     × (l.steps ≤ l.initial.steps + few_walks (length l.shift) (length l.terms))

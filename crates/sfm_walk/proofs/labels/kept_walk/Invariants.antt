@@ -7,7 +7,7 @@ use Rattle.sfm_walk.specs.Run.{IsRunAt}
 use Rattle.sfm_walk.proofs.labels.kept_walk.Given as goal
 
 abbrev pub invariant-loop : goal.invariant-loop
-invariant-loop g l = let t = g.T.Term in IsClaimed t.places t.value_of t.size_of t.fits l.terms (length l._shift) l.q l.graph
+invariant-loop g l = let t = g.T.Term in IsClaimed t l.terms (length l._shift) l.q l.graph
     × (l.graph.bases ≡ l.initial.graph.bases)
     × IsRunAt (meanings t.places t.value_of l.terms) l._shift l.initial.graph.bases l.run
     × AreLabels (meanings t.places t.value_of l.terms) (length l._shift) l.q l._shift l.initial.graph.bases l.run.levels.items
