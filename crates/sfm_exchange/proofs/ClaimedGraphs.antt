@@ -7,7 +7,7 @@ use Rattle.std.proofs.lemmas.List.{get_or_default, length-map, set-get_or}
 use Rattle.sfm_law.specs.declared.term.Term.{Ghosts}
 use Rattle.sfm_spec.specs.Sets.{IsPlaced, AreDistinct}
 use Rattle.sfm_spec.specs.Bounds.{IsEntry}
-use Rattle.sfm_spec.specs.Terms.{SetFunction, times, IsFamily, IsSubmodular}
+use Rattle.sfm_spec.specs.Terms.{times, IsFamily, IsSubmodular}
 use Rattle.sfm_spec.specs.Families.{Meaning, meanings, AreTerms}
 use Rattle.sfm_spec.specs.Walks.{term_at, base_at}
 use Rattle.sfm_spec.proofs.Duality.{meanings-terms}

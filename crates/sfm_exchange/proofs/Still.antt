@@ -6,7 +6,6 @@ use mir.Syntax.{w128}
 use mir.Val.{of_z, to_z}
 use Rattle.sfm_law.specs.declared.term.Term.{Ghosts}
 use Rattle.sfm_spec.specs.Bounds.{IsEntry}
-use Rattle.sfm_spec.specs.Terms.{SetFunction}
 use Rattle.sfm_exchange.specs.declared.graph.Graph.{Graph}
 use Rattle.sfm_exchange.specs.Graph.{IsClaimed, IsReady, IsStill}
 use Rattle.sfm_exchange.proofs.ClaimedGraphs.{over, own}

@@ -3,7 +3,7 @@ use Rattle.std.specs.Prelude.{◌≡◌, ℕ, ◌<◌, List, length, map, ℤ}
 use Rattle.std.specs.List.{All}
 use Rattle.sfm_law.specs.declared.term.Term.{Ghosts}
 use Rattle.sfm_spec.specs.Bounds.{AreBounded, IsEntry, IsFactor}
-use Rattle.sfm_spec.specs.Terms.{SetFunction, times}
+use Rattle.sfm_spec.specs.Terms.{times}
 use Rattle.sfm_spec.specs.Families.{meanings, AreBases}
 use Rattle.sfm_spec.specs.Walks.{term_at, base_at}
 use Rattle.sfm_exchange.specs.declared.graph.Graph.{Graph}

@@ -11,7 +11,7 @@ use crate::graph::Graph;
 use crate::path::Hop;
 use sfm_base::Memory;
 use sfm_law::{At, Term};
-use sfm_reach::{Based, Bits, only, renew, row_kept, take_in};
+use sfm_reach::{Based, Bits, no_bits, only, renew, row_kept, take_in};
 use std::alloc::Global;
 
 // Asks for the row of the place u of a term where it is only claimed.
@@ -112,6 +112,8 @@ fn ask_place<T: Term>(
     ensures still { OnOk result (IsStill T.Term terms.now q graph.old graph.new) }
     ensures exact { OnOk result ((t : ℕ) → bit_in (set_at graph.new.unions.items e) t ≡ 1
         → IsArc (meanings T.places T.value_of terms.now) q graph.old.bases e t) }
+    ensures kept { OnOk result ((j t : ℕ) → bit_in (set_at graph.old.claimed.items j) t ≢ 1
+        → bit_in (set_at graph.new.claimed.items j) t ≢ 1) }
 {
     let here = &graph.spots[e];
     let listed = here.as_slice();
@@ -121,6 +123,42 @@ fn ask_place<T: Term>(
         let at = spots.as_slice();
         let spot = at[k];
         ask_at(alloc, graph, terms, q, spot.term, spot.local)?;
+    }
+    Ok(())
+}
+
+// The places with a row that is only claimed.
+fn claimed_places(sets: &[Bits]) -> Bits
+    ensures { (j e : ℕ) → bit_in (set_at sets.now j) e ≡ 1 → bit_in result e ≡ 1 }
+{
+    let mut all = no_bits();
+    for set in sets {
+        all.union_with(set);
+    }
+    all
+}
+
+// Asks for the rows of a place that are only claimed, which is one of some places if it has any.
+fn settle_place<T: Term>(
+    alloc: Global,
+    graph: &mut Graph<T::Note>,
+    terms: &[T],
+    q: i128,
+    claimed: &Bits,
+    e: usize,
+) -> Result<(), Memory>
+    requires ready { IsReady T.Term terms.now q graph.old }
+    requires place { e < length graph.old.spots.items }
+    requires claimed { (j t : ℕ) → bit_in (set_at graph.old.claimed.items j) t ≡ 1
+        → bit_in claimed.now t ≡ 1 }
+    ensures still { OnOk result (IsStill T.Term terms.now q graph.old graph.new) }
+    ensures exact { OnOk result ((t : ℕ) → bit_in (set_at graph.new.unions.items e) t ≡ 1
+        → IsArc (meanings T.places T.value_of terms.now) q graph.old.bases e t) }
+    ensures kept { OnOk result ((j t : ℕ) → bit_in (set_at graph.old.claimed.items j) t ≢ 1
+        → bit_in (set_at graph.new.claimed.items j) t ≢ 1) }
+{
+    if claimed.contains(e) {
+        return ask_place(alloc, graph, terms, q, e);
     }
     Ok(())
 }
@@ -147,11 +185,12 @@ pub fn walked_from<T: Term>(
     ensures walked { IfOk result (AreWalked (meanings T.places T.value_of terms.now)
         (length graph.old.spots.items) q graph.old.bases firsts.now) }
 {
+    let claimed = claimed_places(&graph.claimed);
     let mut found = *firsts;
     let mut ahead = *firsts;
     while let Some(e) = ahead.first() {
         ahead.remove(e);
-        ask_place(alloc, graph, terms, q, e)?;
+        settle_place(alloc, graph, terms, q, &claimed, e)?;
         let row = &graph.unions[e];
         take_in(row, &mut found, &mut ahead);
     }

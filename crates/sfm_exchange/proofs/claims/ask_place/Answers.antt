@@ -31,7 +31,7 @@ is_spot g c = c.requires.ready.claimed.are_spots.sound c.args.e c.loop-k.k c.req
 pub loop-k-init : goal.loop-k-init
 loop-k-init g c =
     let fq : FitsSigned w128 c.args.q = c.ranges.q in
-    simp to_z-of_z (still_begun c.requires.ready.claimed, refl, (λ j l. absurd (omega (arith, l))))
+    simp to_z-of_z (still_begun c.requires.ready.claimed, refl, (λ j l. absurd (omega (arith, l))), (λ j t out. out))
 
 pub index-spots-requires : goal.index-spots-requires
 index-spots-requires g c =
@@ -64,7 +64,7 @@ loop-k-preserved g c =
     let S : ℕ → Type 0 = λ j. bit_in (set_at after.claimed.items (spot_at (spots_at c.args.graph.now.spots.items e) j).term) e ≢ 1 in
     let settled : S c.loop-k.k = rw (is_spot g at).at at (rw (here g at) at o.settled) in
     let each : (j : ℕ) → j < c.loop-k.k + 1 → S j = λ j l. ⊎_elim (λ less. o.kept _ e (inv.2 j less)) (λ ge. let same : c.loop-k.k ≡ j = omega (arith, ge, l) in subst S same settled) (cases_lt j c.loop-k.k) in
-    simp to_z-of_z (still_then inv.0 (simp to_z-of_z at o.still), o.spots ∙ inv.1, each)
+    simp to_z-of_z (still_then inv.0 (simp to_z-of_z at o.still), o.spots ∙ inv.1, each, (λ j t out. o.kept j t (inv.3 j t out)))
 
 pub returns-clause-still : goal.returns-clause-still
 returns-clause-still g c = let fq : FitsSigned w128 c.args.q = c.ranges.q in simp to_z-of_z at c.loop-k.invariant.0
@@ -77,3 +77,6 @@ returns-clause-exact g c =
     let here : c.index-here.result.now ≡ spots_at spots c.args.e = c.index-here.ensures ∙ get_or_default spots c.args.e c.index-here.result.now [] c.requires.place in
     let long = ap length (c.as_slice-listed.ensures ∙ here) in
     rw inv.0.bases at (arcs_alone inv.0.claimed c.args.e c.requires.place (rw inv.1 (λ j l. inv.2 j (omega (arith, l, long, c.loop-k-test.false)))))
+
+pub returns-clause-kept : goal.returns-clause-kept
+returns-clause-kept g c = c.loop-k.invariant.3
