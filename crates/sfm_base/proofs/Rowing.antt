@@ -2,7 +2,7 @@
 use Rattle.std.proofs.Common.{◌≡◌, ℕ, zero, suc, ◌+◌, ◌-◌, ◌<◌, ◌≤◌, List, [], ◌∷◌, ◌++◌, length, get_or, set, map, take, drop, ℤ, pos, ◌+ℤ◌, ◌-ℤ◌, refl, sym, ap, ◌∙◌, subst, arith}
 use Rattle.std.proofs.Math.Path.{ap₂}
 use Rattle.std.proofs.lemmas.List.{length-set, length-take, length-drop, get_or-take, get_or-drop, get_or-set_same, set-set, drop-set-lt, drop-set-add, take-set-le, take-append-le, drop-append-le, take-append-drop, drop-drop, length-append}
-use Rattle.std.proofs.lemmas.List.Elements.{All-append}
+use Rattle.std.proofs.lemmas.List.Elements.{All-append, All-cons, All-drop, All-nil, All-take}
 use Rattle.std.proofs.Math.Seq.{take-set-lt, take-length, drop-length, drop-append_seam}
 use Rattle.std.specs.List.{All, take-map, drop-map}
 use Rattle.sfm_spec.specs.Terms.{exchanged}
@@ -95,6 +95,11 @@ all_numbers P s (e ∷ ends) xs h all =
     let f = h.0 in
     let split : drop s xs ≡ take (e - s) (drop s xs) ++ drop e xs = sym (take-append-drop (e - s) (drop s xs)) ∙ ap (λ r. take (e - s) (drop s xs) ++ r) (drop-drop (e - s) s xs ∙ ap (λ k. drop k xs) (omega (arith, f))) in
     subst (All P) (sym split) (All-append P (take (e - s) (drop s xs)) (drop e xs) (all 0 [] (omega arith)) (all_numbers P e ends xs h.1 (λ k d l. all (suc k) d (omega arith))))
+
+-- and what holds of all numbers holds of those of all rows
+pub all_rows : (P : ℤ → Type 0) (s : ℕ) (ends : List ℕ) (xs : List ℤ) → All P xs → All (λ x. All P x) (rows_from s ends xs)
+all_rows P s [] xs all = All-nil (λ x. All P x)
+all_rows P s (e ∷ ends) xs all = All-cons (λ x. All P x) (take (e - s) (drop s xs)) (rows_from e ends xs) (All-take P (e - s) (drop s xs) (All-drop P s xs all)) (all_rows P e ends xs all)
 
 -- a row that is there has an end
 pub end_there : {A : Type 0} (ends : List ℕ) (xs : List A) (rows : List (List A)) (i : ℕ) → rows_from 0 ends xs ≡ rows → i < length rows → i < length ends

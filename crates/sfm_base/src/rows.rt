@@ -1,7 +1,7 @@
 // Rows of numbers, one for each term: a list that grows at its end, and whose numbers can be exchanged. All numbers lie in
 // one list, one row behind the other, and another one tells where each row ends: so rows take no memory each, and are copied
 // at once.
-ghost use Rattle.std.specs.{Prelude.{◌≡◌, ◌≢◌, ◌<◌, ◌≤◌, ◌-◌, ◌*◌, ◌^◌, ℤ, pos, ◌*ℤ◌, length, map, take, drop, slice_index_or, slice_set, is_ok, IfOk, [], ◌∷◌, ◌++◌, ◌==◌, if◌then◌else◌}, List.{All}};
+ghost use Rattle.std.specs.{Prelude.{◌≡◌, ◌≢◌, ◌↔◌, ◌<◌, ◌≤◌, ◌-◌, ◌*◌, ◌^◌, ℤ, pos, ◌*ℤ◌, length, map, take, drop, slice_index_or, slice_set, is_ok, unsigned_abs, IsTrue, IfOk, [], ◌∷◌, ◌++◌, ◌==◌, if◌then◌else◌}, List.{All}};
 ghost use Rattle.sfm_spec.specs.{Bounds.{IsAtMost, IsFactor}, Terms.{exchanged}};
 
 use crate::Memory;
@@ -138,6 +138,20 @@ impl Rows {
         let ends = Vec::from_slice(alloc, &self.ends)?;
         Ok(Rows { numbers, ends })
     }
+
+    /// Whether each number has a magnitude of at most `most`.
+    pub fn are_within(&self, most: u128) -> bool
+        ensures { IsTrue result ↔ All (λ x. All (λ a. unsigned_abs a ≤ most) x) self.now }
+    {
+        are_all_within(&self.numbers, most)
+    }
+}
+
+// Whether each of some numbers has a magnitude of at most `most`.
+fn are_all_within(numbers: &[i128], most: u128) -> bool
+    ensures { IsTrue result ↔ All (λ a. unsigned_abs a ≤ most) numbers.now }
+{
+    numbers.iter().all(|a| a.unsigned_abs() <= most)
 }
 
 // Where row i begins.

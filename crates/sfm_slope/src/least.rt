@@ -10,7 +10,7 @@ ghost use Rattle.sfm_sizes.specs.Sizes.{AreElementSizes};
 ghost use Rattle.sfm_slope.specs.{Nears.{IsLeastNear}, Searches.{IsSearch}, Worths.{IsWorth}};
 
 use crate::attained::{Attained, worth_by};
-use crate::rows::{are_small, grains};
+use crate::rows::grains;
 use crate::search::{GRAIN, Search, set_shift};
 use crate::worth::Worth;
 use sfm_base::{Memory, Slope, Steps};
@@ -163,7 +163,7 @@ fn multiply_warm<T: Term>(
     ensures small { OnOk result (All (λ x. All (IsAtMost (10 ^ 25)) x) search.new.cold.bases) }
 {
     let alloc = search.alloc;
-    if are_small(&search.warm.bases, MOST_MULTIPLIED) {
+    if search.warm.bases.are_within(MOST_MULTIPLIED) {
         let warm = Beside {
             graph: &search.warm,
             q: GRAIN,
@@ -189,7 +189,7 @@ fn keep_small<T: Term>(
         graph.new) }
     ensures small { OnOk result (All (λ x. All (IsAtMost (10 ^ 25)) x) graph.new.bases) }
 {
-    if are_small(&graph.bases, 10_000_000_000_000_000_000_000_000) {
+    if graph.bases.are_within(10_000_000_000_000_000_000_000_000) {
         return Ok(());
     }
     restart_by(alloc, graph, terms, GRAIN, first)?;

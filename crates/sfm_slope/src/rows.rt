@@ -2,7 +2,7 @@
 // terms, whose entries always are. Bases of the terms hang on no slope, and q times a base of a term is one of q times the
 // term, so bases found at one slope serve at any other; they only have fewer walks before them. At any factor the first bases are
 // so many times those of the terms themselves.
-ghost use Rattle.std.specs.{Prelude.{◌≡◌, ◌↔◌, ◌≤◌, ◌^◌, map, pos, unsigned_abs, ◌*ℤ◌, ◌≤ℤ◌, IsTrue, IfOk}, List.{All}};
+ghost use Rattle.std.specs.{Prelude.{◌≡◌, ◌^◌, map, pos, ◌*ℤ◌, ◌≤ℤ◌, IfOk}, List.{All}};
 ghost use Rattle.sfm_spec.specs.{Bounds.{IsAtMost, total_of}, Families.{meanings, AreBases}};
 
 use crate::search::GRAIN;
@@ -32,23 +32,4 @@ pub fn grains(a: i128) -> i128
     ensures small { IsAtMost (10 ^ 21) result }
 {
     a * GRAIN
-}
-
-/// Whether each entry of each row has a magnitude of at most `most`.
-pub fn are_small(rows: &Rows, most: u128) -> bool
-    ensures { IsTrue result ↔ All (λ x. All (λ a. unsigned_abs a ≤ most) x) rows.now }
-{
-    for i in 0..rows.len() {
-        if !is_small(rows.row(i), most) {
-            return false;
-        }
-    }
-    true
-}
-
-// Whether each entry has a magnitude of at most `most`.
-fn is_small(x: &[i128], most: u128) -> bool
-    ensures { IsTrue result ↔ All (λ a. unsigned_abs a ≤ most) x.now }
-{
-    x.iter().all(|a| a.unsigned_abs() <= most)
 }

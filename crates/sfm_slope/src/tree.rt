@@ -9,7 +9,6 @@ ghost use Rattle.sfm_sizes.specs.Sizes.{AreElementSizes};
 ghost use Rattle.sfm_exchange.specs.Scaled.{rows_times};
 ghost use Rattle.sfm_slope.specs.{Marks.{HasBasesBy, mark_of}, Points.{IsInRange, found_mark}, Searches.{IsSearch}, Standings.{IsStanding, IsSection}};
 
-use crate::rows::are_small;
 use crate::search::{Search, set_shift};
 use crate::sections::{each_section, section};
 use crate::standing::{Standing, copy_standing, most_walks, stage_over};
@@ -48,12 +47,12 @@ pub fn branch<T: Term>(
         breaks.new.items) }
 {
     let few = most_walks(sizes.len(), terms.len());
-    if found.len() < 2 || at.walks > few || !are_small(&at.graph.bases, MOST_MULTIPLIED) {
+    if found.len() < 2 || at.walks > few || !at.graph.bases.are_within(MOST_MULTIPLIED) {
         return leaves(search, terms, sizes, found, &at, breaks);
     }
     let mut at = at;
     stage_over(search.alloc, terms, sizes, found, &mut at)?;
-    if found.len() < FEW_AT_LEAVES || !are_small(&at.graph.bases, MOST_MULTIPLIED) {
+    if found.len() < FEW_AT_LEAVES || !at.graph.bases.are_within(MOST_MULTIPLIED) {
         return leaves(search, terms, sizes, found, &at, breaks);
     }
     let mid = found.len() / 2;
@@ -92,7 +91,7 @@ fn leaves<T: Term>(
         (λ q. map (λ term. T.start_of term q) terms.now) (length sizes.now) sizes.now)
         breaks.new.items) }
 {
-    if !are_small(&at.graph.bases, MOST_MULTIPLIED) {
+    if !at.graph.bases.are_within(MOST_MULTIPLIED) {
         return each_section(search, terms, sizes, found, breaks);
     }
     for point in found {

@@ -21,5 +21,5 @@ returns-clause-small g c =
     rw (c.in_ok-restart_by.ensures.bases ∙ ap (rows_times (pos 64)) c.requires.begins)
     (multiples_small t.places t.value_of t.size_of m.submodular m.bounded _ c.args.terms.now c.requires.graph.bounded t.start_of m.starts_times m.starts_small (pos 64) c.requires.graph.factor)
 
-pub returns-then-are_small-clause-small : goal.returns-then-are_small-clause-small
-returns-then-are_small-clause-small g c = small_from_abs (10 ^ 25) c.args.graph.now.bases (c.are_small.ensures.0 c.if-are_small.true)
+pub returns-then-are_within-clause-small : goal.returns-then-are_within-clause-small
+returns-then-are_within-clause-small g c = small_from_abs (10 ^ 25) c.args.graph.now.bases (c.are_within.ensures.0 c.if-are_within.true)

@@ -20,11 +20,11 @@ restart_times-requires-clause-other g c = rw c.requires.search.cold.are_spots.co
 
 pub restart_times-requires-clause-small : goal.restart_times-requires-clause-small
 restart_times-requires-clause-small g c =
-    let s = small_from_abs (10 ^ 19) c.args.search.now.warm.bases (c.are_small.ensures.0 c.if-are_small.true) in
+    let s = small_from_abs (10 ^ 19) c.args.search.now.warm.bases (c.are_within.ensures.0 c.if-are_within.true) in
     λ k d l i e lt. let b = s k d l i e lt in record { low = omega (arith, ints, b.low); high = omega (arith, ints, b.high) }
 
-pub returns-then-are_small : goal.returns-then-are_small
-returns-then-are_small g c =
+pub returns-then-are_within : goal.returns-then-are_within
+returns-then-are_within g c =
     let fq : FitsSigned w128 c.args.q = c.ranges.q in
     let r = c.requires in
     let graph = simp to_z-of_z at (rw r.search.cold.are_spots.count at c.in_ok-restart_times.ensures.graph) in
@@ -32,7 +32,7 @@ returns-then-are_small g c =
     record {
       search = record { first = r.search.first; begins = r.search.begins; warm = r.search.warm; cold = shaped graph; shift = r.search.shift };
       graph = graph;
-      small = rw bases (rows-small c.args.q c.args.search.now.warm.bases r.factor (small_from_abs (10 ^ 19) c.args.search.now.warm.bases (c.are_small.ensures.0 c.if-are_small.true)));
+      small = rw bases (rows-small c.args.q c.args.search.now.warm.bases r.factor (small_from_abs (10 ^ 19) c.args.search.now.warm.bases (c.are_within.ensures.0 c.if-are_within.true)));
     }
 
 pub restart_by-requires : goal.restart_by-requires

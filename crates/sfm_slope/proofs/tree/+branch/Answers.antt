@@ -22,11 +22,11 @@ behind found k le = let l = length-drop k found in take_all (length found - k) (
 
 pub stage_over-requires-clause-small : goal.stage_over-requires-clause-small
 stage_over-requires-clause-small g t c =
-    small_within (10 ^ 19) (10 ^ 25) (omega arith) c.args.at.graph.bases (small_from_abs (10 ^ 19) c.args.at.graph.bases (c.are_small.ensures.0 c.if-not-are_small.false))
+    small_within (10 ^ 19) (10 ^ 25) (omega arith) c.args.at.graph.bases (small_from_abs (10 ^ 19) c.args.at.graph.bases (c.are_within.ensures.0 c.if-not-are_within.false))
 
 pub copy_standing-requires-clause-small : goal.copy_standing-requires-clause-small
 copy_standing-requires-clause-small g t c =
-    small_within (10 ^ 19) (10 ^ 21) (omega arith) c.stage_over.new.at.graph.bases (small_from_abs (10 ^ 19) c.stage_over.new.at.graph.bases (c.are_small-else-found-lt-FEW_AT_LEAVES.ensures.0 c.if-not-are_small-2.false))
+    small_within (10 ^ 19) (10 ^ 21) (omega arith) c.stage_over.new.at.graph.bases (small_from_abs (10 ^ 19) c.stage_over.new.at.graph.bases (c.are_within-else-found-lt-FEW_AT_LEAVES.ensures.0 c.if-not-are_within-2.false))
 
 pub branch-search-requires : goal.branch-search-requires
 branch-search-requires g t c = λ κs lives.

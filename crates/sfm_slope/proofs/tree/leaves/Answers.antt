@@ -14,7 +14,7 @@ leaf-requires-clause-standing g c =
     standing_over c.requires.standing (point ∷ []) (λ P all. All-cons P point [] (subst P (sym c.point-item.is) (all c.loop-point.point-index point c.loop-point-test.true)) (All-nil P))
 
 pub leaf-requires-clause-small : goal.leaf-requires-clause-small
-leaf-requires-clause-small g c = small_from_abs (10 ^ 19) c.args.at.now.graph.bases (c.are_small.ensures.0 c.if-not-are_small.false)
+leaf-requires-clause-small g c = small_from_abs (10 ^ 19) c.args.at.now.graph.bases (c.are_within.ensures.0 c.if-not-are_within.false)
 
 pub loop-point-preserved : goal.loop-point-preserved
 loop-point-preserved g c =
