@@ -138,6 +138,7 @@ impl Spread {
         ensures queue { self.new.queue.items ≡ self.old.queue.items }
         ensures next { self.new.next ≡ self.old.next }
     {
+        self.hints.reserve(m.saturating_sub(self.hints.len()))?;
         for _ in self.hints.len()..m {
             self.hints.push(0)?;
         }
@@ -162,6 +163,7 @@ impl Spread {
         self.found.insert(u);
         make_empty(alloc, &mut self.marks, m)?;
         self.queue.clear();
+        self.queue.reserve(n)?;
         self.queue.push(u)?;
         self.from = u;
         self.next = 0;

@@ -69,6 +69,7 @@ impl Told {
         ensures same { (u : ℕ) → answer_at self.new u ≡ answer_at self.old u }
         ensures places { OnOk result (length self.new ≡ n) }
     {
+        self.answers.reserve(n - self.answers.len())?;
         for _ in self.answers.len()..n {
             self.answers.push(None)?;
         }

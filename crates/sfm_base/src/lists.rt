@@ -38,6 +38,19 @@ impl Lists {
         }
     }
 
+    /// No lists, with room for so many, with so many numbers in all.
+    ///
+    /// # Errors
+    ///
+    /// `Memory` where there is none.
+    pub fn with_room(alloc: Global, lists: usize, numbers: usize) -> Result<Lists, Memory>
+        ensures { IfOk result (λ r. r ≡ []) }
+    {
+        let items = Vec::with_capacity(alloc, numbers)?;
+        let ends = Vec::with_capacity(alloc, lists)?;
+        Ok(Lists { items, ends })
+    }
+
     /// A copy.
     ///
     /// # Errors

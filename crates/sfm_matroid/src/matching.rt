@@ -66,7 +66,7 @@ pub(crate) fn slot_demand(
     }) }
 {
     let capacities = vec![in alloc; most; m]?;
-    let mut demand = Demand::new(alloc, &capacities)?;
+    let mut demand = Demand::with_room(alloc, &capacities, entries.len(), 0)?;
     push_slots(alloc, entries, x, &mut demand)?;
     Ok(demand)
 }

@@ -56,7 +56,8 @@ pub(crate) fn end_demand(
         most x.now a) }
 {
     let capacities = capacities(alloc, graph.vertices, most, a)?;
-    let mut demand = Demand::new(alloc, &capacities)?;
+    let edges = x.len();
+    let mut demand = Demand::with_room(alloc, &capacities, edges, edges.saturating_mul(2))?;
     push_ends(graph.ends.as_slice(), x, &mut demand)?;
     Ok(demand)
 }

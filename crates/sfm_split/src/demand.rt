@@ -65,11 +65,32 @@ impl Demand {
           capacities = capacities.now;
         }) }
     {
-        let capacities = Vec::from_slice(alloc, capacities)?;
+        Demand::with_room(alloc, capacities, 0, 0)
+    }
+
+    /// The same with room for so many demands, whose lists have so many slots in all.
+    ///
+    /// # Errors
+    ///
+    /// `Memory` where there is none.
+    pub fn with_room(
+        alloc: Global,
+        capacities: &[i128],
+        demands: usize,
+        slots: usize,
+    ) -> Result<Demand, Memory>
+        requires few { length capacities.now ≤ 2 ^ 24 }
+        requires bounded { All IsCapacity capacities.now }
+        ensures { IfOk result (λ r. r ≡ record {
+          demands = [];
+          lists = [];
+          capacities = capacities.now;
+        }) }
+    {
         Ok(Demand {
-            demands: Vec::new(alloc),
-            lists: Lists::new(alloc),
-            capacities,
+            demands: Vec::with_capacity(alloc, demands)?,
+            lists: Lists::with_room(alloc, demands, slots)?,
+            capacities: Vec::from_slice(alloc, capacities)?,
         })
     }
 

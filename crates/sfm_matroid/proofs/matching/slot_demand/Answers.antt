@@ -11,8 +11,8 @@ held c =
     let same : c.deref.result.now ≡ replicate c.args.m c.args.most = search rules in
     same
 
-pub new-requires-clause-few : goal.new-requires-clause-few
-new-requires-clause-few c = let l = ap length (held c) ∙ length-replicate c.args.m c.args.most in omega (arith, l, c.requires.few_slots)
+pub with_room-requires-clause-few : goal.with_room-requires-clause-few
+with_room-requires-clause-few c = let l = ap length (held (goal.at.with_room-requires-clause-few c).After-deref) ∙ length-replicate c.args.m c.args.most in omega (arith, l, c.requires.few_slots)
 
 pub push_slots-requires-clause-few : goal.push_slots-requires-clause-few
 push_slots-requires-clause-few c = c.requires.few

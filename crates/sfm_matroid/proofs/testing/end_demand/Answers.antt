@@ -11,8 +11,8 @@ use Rattle.sfm_matroid.proofs.testing.end_demand.Goals as goal
 held : (c : After-deref) → c.deref.result.now ≡ vertex_capacities c.args.graph.now.vertices c.args.most c.args.a
 held c = let fm : FitsSigned w128 c.args.most = c.ranges.most in c.deref.ensures.value ∙ simp to_z-of_z at c.in_ok-capacities.ensures
 
-pub new-requires-clause-bounded : goal.new-requires-clause-bounded
-new-requires-clause-bounded c = rw (held c) (vertices_bounded c.args.graph.now.vertices c.args.most c.args.a c.requires.low c.requires.high)
+pub with_room-requires-clause-bounded : goal.with_room-requires-clause-bounded
+with_room-requires-clause-bounded c = rw (held (goal.at.with_room-requires-clause-bounded c).After-deref) (vertices_bounded c.args.graph.now.vertices c.args.most c.args.a c.requires.low c.requires.high)
 
 pub push_ends-requires-clause-few : goal.push_ends-requires-clause-few
 push_ends-requires-clause-few c = rw c.as_slice.ensures c.args.graph.now.few
