@@ -31,12 +31,12 @@ impl Model for Spots {
 }
 
 impl Spots {
-    fn new(alloc: Global) -> Spots
-        ensures { result ≡ [] }
+    // No spots, with room for so many.
+    fn with_room(alloc: Global, count: usize) -> Result<Spots, Memory>
+        ensures { IfOk result (λ r. r ≡ []) }
     {
-        Spots {
-            spots: Vec::new(alloc),
-        }
+        let spots = Vec::with_capacity(alloc, count)?;
+        Ok(Spots { spots })
     }
 
     fn push(&mut self, spot: Spot) -> Result<(), Memory>
@@ -59,20 +59,43 @@ pub fn spots_of<T: Term>(alloc: Global, terms: &[T], n: usize) -> Result<Vec<Spo
     requires { All (IsPlaced n) (map T.places terms.now) }
     ensures { IfOk result (λ r. AreSpots (meanings T.places T.value_of terms.now) n r.items) }
 {
-    let mut spots = no_spots(alloc, n)?;
+    let counts = counts_of(alloc, terms, n)?;
+    let mut spots = no_spots(alloc, &counts)?;
     for (i, term) in terms.iter().enumerate() {
         add_spots(&mut spots, term.elements(), i)?;
     }
     Ok(spots)
 }
 
-// n places without spots.
-fn no_spots(alloc: Global, n: usize) -> Result<Vec<Spots>, Memory>
-    ensures { IfOk result (λ r. r.items ≡ replicate n []) }
+// How many spots each of n places has, to make room for as many.
+fn counts_of<T: Term>(alloc: Global, terms: &[T], n: usize) -> Result<Vec<usize>, Memory>
+    requires { All (IsPlaced n) (map T.places terms.now) }
+    ensures { IfOk result (λ r. length r.items ≡ n) }
 {
-    let mut spots = Vec::with_capacity(alloc, n)?;
-    for _ in 0..n {
-        spots.push(Spots::new(alloc))?;
+    let mut counts = vec![in alloc; 0; n]?;
+    for term in terms {
+        count_places(term.elements(), &mut counts);
+    }
+    Ok(counts)
+}
+
+// Adds one to the count of each of some places.
+fn count_places(places: &[usize], counts: &mut [usize])
+    requires { IsPlaced (length counts.old) places.now }
+    ensures { length counts.new ≡ length counts.old }
+{
+    for place in places {
+        counts[*place] = counts[*place].saturating_add(1);
+    }
+}
+
+// Places without spots, each with room for as many as its count.
+fn no_spots(alloc: Global, counts: &[usize]) -> Result<Vec<Spots>, Memory>
+    ensures { IfOk result (λ r. r.items ≡ replicate (length counts.now) []) }
+{
+    let mut spots = Vec::with_capacity(alloc, counts.len())?;
+    for count in counts {
+        spots.push(Spots::with_room(alloc, *count)?)?;
     }
     Ok(spots)
 }

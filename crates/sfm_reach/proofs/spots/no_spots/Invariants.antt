@@ -2,5 +2,5 @@
 use Rattle.std.proofs.Common.{◌≡◌, [], replicate}
 use Rattle.sfm_reach.proofs.spots.no_spots.Given as goal
 
-abbrev pub invariant-loop : goal.invariant-loop
-invariant-loop l = l.spots.items ≡ replicate l.counter []
+abbrev pub invariant-loop-count : goal.invariant-loop-count
+invariant-loop-count l = l.spots.items ≡ replicate l.count-index []

@@ -9,7 +9,7 @@ use Rattle.sfm_reach.proofs.spots.spots_of.Goals as goal
 pub loop-i-init : goal.loop-i-init
 loop-i-init g c =
     let t = g.T.Term in
-    rw c.in_ok-spots.ensures (spots_none (meanings t.places t.value_of c.args.terms.now) c.args.n)
+    rw (c.in_ok-spots.ensures, c.deref.ensures.value, c.in_ok-counts.ensures) (spots_none (meanings t.places t.value_of c.args.terms.now) c.args.n)
 
 pub add_spots-requires : goal.add_spots-requires
 add_spots-requires g c =
