@@ -79,6 +79,11 @@ impl Rows {
         self.ends.is_empty()
     }
 
+    /// How many numbers they have in all, to make room for as many.
+    pub fn room(&self) -> usize {
+        self.numbers.len()
+    }
+
     /// Puts a row at the end.
     ///
     /// # Errors

@@ -1,6 +1,7 @@
 // Writing an answer: a line for each thing that it says, then the bases that prove it. The same walk tells how long the
-// text is and writes it, so that room is made once, before the first byte, and nothing is refused behind that. The first
-// line is all that differs where elements have sizes.
+// text is and writes it. Room is made before the first byte, for about as much as the text may want; where that is not
+// enough, or more than there is, the text is measured, and written into room for it. The first line is all that differs
+// where elements have sizes.
 ghost use Rattle.std.specs.{Prelude.{◌≡◌, ◌-◌, ◌≤◌, ◌++◌, codes, length, map, pos, IfOk}, List.{All}};
 ghost use Rattle.sfm_spec.specs.Bounds.{IsEntry};
 ghost use Rattle.sfm_cert.specs.{Answer.{head_lines, text_of}, Header.{header_text}, LineLists.{answer_text, break_lines}, Reading.{first_lines}, Few.{HasFewLines}, Form.{AreFormedRows, IsFormed}, Solved.{answer_of, break_of, form_of, form_with}};
@@ -9,6 +10,7 @@ use crate::header::Header;
 use crate::out::{Gauge, Out};
 use crate::put::{put_blocks, put_breaks, put_names, put_number, put_section};
 use crate::solved::Solved;
+use crate::width::width;
 use sfm_base::{Memory, Page, Slope};
 use sfm_kind::Instance;
 use sfm_law::Break;
@@ -119,7 +121,46 @@ fn put_with(page: &mut Page, header: Header, instance: &Instance, solved: &Solve
     put_text(page, header, instance, solved);
 }
 
-/// The text of an answer with that first line. Room for all of it is made first, and nothing is refused behind that.
+// How long the text is thought to be: its head and the bases of the minimum are measured, and at each slope an entry is taken to
+// be longer by the digits of the denominator.
+fn rough_len(header: Header, instance: &Instance, solved: &Solved) -> usize
+    requires { IsFormed (form_with (header_text header) instance.now) (answer_of solved.now) }
+{
+    let mut gauge = Gauge::new();
+    put_head(&mut gauge, header, instance, solved);
+    let mut len = gauge.used();
+    let mut gauge = Gauge::new();
+    put_section(&mut gauge, instance, &Slope::new(0, 1), &solved.bases);
+    let first = gauge.used();
+    len = len.saturating_add(first);
+    let entries = solved.bases.room();
+    for b in &solved.breaks {
+        let longer = entries.saturating_mul(width(b.slope.den));
+        len = len.saturating_add(first).saturating_add(longer);
+    }
+    len.saturating_add(64)
+}
+
+// The text of an answer with that first line, measured and then written into room for it.
+fn write_measured(
+    alloc: Global,
+    header: Header,
+    instance: &Instance,
+    solved: &Solved,
+) -> Result<Vec<u8>, Memory>
+    requires formed { IsFormed (form_with (header_text header) instance.now)
+        (answer_of solved.now) }
+    requires few { HasFewLines (answer_of solved.now) }
+    ensures { IfOk result (λ text. text.items ≡ answer_text
+        (form_with (header_text header) instance.now) (answer_of solved.now)) }
+{
+    let mut page = Page::new(alloc);
+    page.reserve(len_with(header, instance, solved))?;
+    put_with(&mut page, header, instance, solved);
+    Ok(page.into_vec())
+}
+
+/// The text of an answer with that first line.
 ///
 /// # Errors
 ///
@@ -137,9 +178,14 @@ pub fn write_with(
         (form_with (header_text header) instance.now) (answer_of solved.now)) }
 {
     let mut page = Page::new(alloc);
-    page.reserve(len_with(header, instance, solved))?;
-    put_with(&mut page, header, instance, solved);
-    Ok(page.into_vec())
+    if page.reserve(rough_len(header, instance, solved)).is_ok() {
+        put_text(&mut page, header, instance, solved);
+        if page.spare() > 0 {
+            return Ok(page.into_vec());
+        }
+    }
+    drop(page);
+    write_measured(alloc, header, instance, solved)
 }
 
 /// The text of an answer, where each element counts one.

@@ -64,6 +64,11 @@ const TEXTS: &[(&[u8], usize)] = &[
         b"answer 1\nminimum 0\nleast\ngreatest\nat 0/1\nbase 1 0 0\nbase 2 1000000000000000000000000000000 -1000000000000000000000000000000\nend\n",
         0,
     ),
+    // Bases at a slope that are far longer than those of the minimum.
+    (
+        b"answer 1\nminimum 0\nleast\ngreatest\nslope -1/1 a b\nat 0/1\nbase 1 0 0\nbase 2 0 0\nat -1/1\nbase 1 1000000000000000000000000000000 -1000000000000000000000000000000\nbase 2 1000000000000000000000000000000 -1000000000000000000000000000000\nend\n",
+        0,
+    ),
     (
         b"answer 1\nminimum 0\nleast\ngreatest\nat 0/1\nbase 1 0 0\nbase 2 1000000000000000000000000000001 0\nend\n",
         7,
