@@ -24,3 +24,4 @@ pub use path::{Hop, Path, Stuck, descend, follow, local_of, steps_along};
 pub use renewing::renew_rows;
 pub use sfm_reach::{Bits, no_bits, reached_from, set_of};
 pub use signs::{Signs, move_signs, signs_of};
+pub use sums::sums_of;

@@ -9,7 +9,11 @@ use sfm_law::{Term, rest_of};
 use std::alloc::Global;
 
 /// The sum of the bases at each of n places.
-pub(crate) fn sums_of<T: Term>(
+///
+/// # Errors
+///
+/// `Memory` where there is none.
+pub fn sums_of<T: Term>(
     alloc: Global,
     terms: &[T],
     n: usize,

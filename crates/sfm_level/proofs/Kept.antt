@@ -17,7 +17,7 @@ use Rattle.sfm_level.specs.Levelling.{IsLevelling}
 use Rattle.sfm_level.proofs.Bounds.{deficit-near, roots-small, squares-low, squares-small}
 use Rattle.sfm_level.proofs.Chains.{chain_lowers}
 use Rattle.sfm_level.proofs.FirstSums.{IsIn, first_sum-in}
-use Rattle.sfm_level.proofs.Values.{get_or-first_values, length-first_values}
+use Rattle.sfm_level.proofs.Values.{get_or-first_values, length-first_values, sums_only}
 
 module _ {X N : Type 0} {T : Ghosts X N} {terms : List X} {n : ℕ} {graph : Graph N}
     (h : IsLevelling T terms n graph) where
@@ -27,6 +27,11 @@ module _ {X N : Type 0} {T : Ghosts X N} {terms : List X} {n : ℕ} {graph : Gra
   -- the sum of the bases
   abbrev Sums : List ℤ
   Sums = sums_of (meanings T.places T.value_of terms) n graph.bases
+
+  -- which the graph keeps
+  pub sums-kept : graph.sums.items ≡ sums_of (meanings T.places T.value_of terms) n graph.bases
+  sums-kept = let are = h.claimed.are_sums in
+      sums_only Terms n graph.bases graph.sums.items (record { places = are.places; exact = are.exact })
 
   -- its squares
   pub squares-near : squares_at (meanings T.places T.value_of terms) n graph.bases ≤ℤ pos (11 * 10 ^ 28)

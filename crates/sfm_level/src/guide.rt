@@ -10,7 +10,6 @@ ghost use Rattle.sfm_spec.specs.Bounds.{IsAtMost};
 ghost use Rattle.sfm_level.specs.Levelling.{IsLevelling};
 
 use crate::settle::settle;
-use crate::sums::sums;
 use sfm_base::{Memory, Steps};
 use sfm_exchange::{Bits, Graph, no_bits, signs_of, walked_from};
 use sfm_law::Term;
@@ -45,8 +44,7 @@ pub fn guide<T: Term>(
         let Some(part) = ahead.pop() else {
             break;
         };
-        let z = sums(alloc, terms, n, &graph.bases)?;
-        let Some(t) = mean_of(&z, &part) else {
+        let Some(t) = mean_of(&graph.sums, &part) else {
             continue;
         };
         let low = least_at(alloc, graph, terms, n, t)?;

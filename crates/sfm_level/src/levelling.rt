@@ -6,9 +6,10 @@ ghost use Rattle.sfm_cert.specs.Solved.{form_of};
 ghost use Rattle.sfm_level.specs.Told.{IsTrueLevel, IsFormedLevel, level_of};
 
 use crate::passes::level_rows;
-use crate::sums::{squares_of, sums};
+use crate::squares::squares_of;
 use crate::told::Level;
 use sfm_base::{Memory, Numbers};
+use sfm_exchange::sums_of;
 use sfm_kind::Instance;
 use std::alloc::Global;
 
@@ -28,7 +29,7 @@ pub fn level(alloc: Global, instance: &Instance) -> Result<Level, Memory>
     let terms = instance.terms();
     let n = instance.names_len();
     let bases = level_rows(alloc, terms, n)?;
-    let vector = sums(alloc, terms, n, &bases)?;
+    let vector = sums_of(alloc, terms, n, &bases)?;
     Ok(Level {
         squares: squares_of(&vector),
         vector: Numbers::from_vec(vector),

@@ -6,7 +6,7 @@ mod guide;
 mod levelling;
 mod passes;
 mod settle;
-mod sums;
+mod squares;
 mod text;
 mod told;
 

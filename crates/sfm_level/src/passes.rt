@@ -10,7 +10,6 @@ ghost use Rattle.sfm_level.specs.{Sums.{squares_at}, Levelling.{IsLevelling}};
 
 use crate::guide::guide;
 use crate::settle::prove_at;
-use crate::sums::sums;
 use sfm_base::{Memory, Rows};
 use sfm_exchange::{Graph, graph_at};
 use sfm_law::{Term, start_rows};
@@ -58,7 +57,7 @@ fn is_moved<T: Term>(
     ensures none { IfOk result (λ r. r ≡ false → (first : ℕ) (steps : List Step)
         → Rises (meanings T.places T.value_of terms.now) graph.new.bases first steps → ⊥) }
 {
-    let z = sums(alloc, terms, n, &graph.bases)?;
+    let z = Vec::from_slice(alloc, &graph.sums)?;
     let mut moved = false;
     for a in &z {
         if prove_at(alloc, graph, terms, n, *a + 1)? {

@@ -1,27 +1,13 @@
 // The smaller of two sums of bases at each place of the ground.
 ghost use Rattle.std.specs.{Prelude.{◌≡◌, ℕ, ◌<◌, length, slice_index_or, pos, IfOk}, Int.{int_min}, List.{All}};
 ghost use Rattle.sfm_spec.specs.{Bounds.{IsEntry}, Families.{AreBases, base_sum_at}};
-ghost use Rattle.sfm_kind.specs.Limits.{AreInBounds};
 ghost use Rattle.sfm_meet.specs.Told.{side_terms};
 
 use crate::told::Bases;
-use sfm_base::{Memory, Numbers, Rows};
-use sfm_kind::{Instance, Kind};
-use sfm_law::rest_of;
+use sfm_base::{Memory, Numbers};
+use sfm_exchange::sums_of;
+use sfm_kind::Instance;
 use std::alloc::Global;
-
-/// What the bases of the terms add up to at each of n places.
-fn sums(alloc: Global, terms: &[Kind], n: usize, rows: &Rows) -> Result<Vec<i128>, Memory>
-    requires bounded { AreInBounds n terms.now }
-    requires bases { AreBases (pos 1) (side_terms terms.now) rows.now }
-    requires small { All (λ x. All IsEntry x) rows.now }
-    ensures count { IfOk result (λ z. length z.items ≡ n) }
-    ensures each { IfOk result (λ z. (e : ℕ) → e < n → slice_index_or z.items e (pos 0)
-        ≡ base_sum_at (side_terms terms.now) rows.now e) }
-{
-    let nothing = vec![in alloc; 0i128; n]?;
-    rest_of(alloc, terms, &nothing, rows)
-}
 
 /// The smaller of two numbers.
 fn smaller(a: i128, b: i128) -> i128
@@ -61,8 +47,8 @@ pub(crate) fn smaller_sums(
         (base_sum_at (side_terms right.now.terms) bases.now.right e)) }
 {
     let n = left.names_len();
-    let mut least = sums(alloc, left.terms(), n, &bases.left)?;
-    let other = sums(alloc, right.terms(), n, &bases.right)?;
+    let mut least = sums_of(alloc, left.terms(), n, &bases.left)?;
+    let other = sums_of(alloc, right.terms(), n, &bases.right)?;
     lessen(&mut least, &other);
     Ok(Numbers::from_vec(least))
 }

@@ -7,7 +7,7 @@ ghost use Rattle.sfm_stage.specs.{Aims.{AreAims}, Kept.{IsKept}};
 
 use sfm_base::Memory;
 use sfm_exchange::{Bits, Path, Signs, move_signs, signs_of};
-use sfm_walk::rest_from;
+use sfm_walk::{move_rest, rest_from};
 use std::alloc::Global;
 
 /// What is left at each place, and the walk that was found last.
@@ -126,22 +126,8 @@ pub fn settle(kept: &mut Kept, a: i128)
 {
     let first = kept.path.first;
     let last = kept.path.last();
-    move_ends(&mut kept.low, first, last, a);
-    move_ends(&mut kept.high, first, last, a);
+    move_rest(&mut kept.low, first, last, a);
+    move_rest(&mut kept.high, first, last, a);
     move_signs(&mut kept.below, &kept.low, first, last);
     move_signs(&mut kept.above, &kept.high, first, last);
-}
-
-// Raises what is left at one place and lowers it at another.
-fn move_ends(z: &mut [i128], first: usize, last: usize, a: i128)
-    requires first { first < length z.old }
-    requires last { last < length z.old }
-    requires apart { first ≢ last }
-    requires low { pos 0 ≤ℤ a }
-    requires under { a ≤ℤ neg_ℤ (slice_index_or z.old first (pos 0)) }
-    requires over { a ≤ℤ slice_index_or z.old last (pos 0) }
-    ensures { z.new ≡ exchanged z.old first last a }
-{
-    z[first] += a;
-    z[last] -= a;
 }

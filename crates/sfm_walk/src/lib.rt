@@ -20,5 +20,5 @@ pub use optimum::{
     Optimum, Optimum as OptimumAt, minimise, minimise_at, minimise_at_counted, minimise_counted,
     minimise_from, minimise_from_start,
 };
-pub use rest::rest_from;
+pub use rest::{move_rest, rest_from};
 pub use shortest_walk::shortest;

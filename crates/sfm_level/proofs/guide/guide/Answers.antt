@@ -3,27 +3,21 @@ use Rattle.std.proofs.lemmas.Int.{ints, to_z-of_z}
 use mir.Syntax.{w128}
 use Rattle.sfm_spec.specs.Bounds.{IsAtMost}
 use Rattle.sfm_spec.specs.Families.{meanings, base_sum_at}
-use Rattle.sfm_level.proofs.Kept.{entries-near, sums-near}
+use Rattle.sfm_level.proofs.Kept.{sums-kept, sums-near}
 use Rattle.sfm_level.proofs.Values.{length-first_values}
 use Rattle.sfm_level.proofs.guide.guide.Goals as goal
-
-pub sums-requires-clause-bases : goal.sums-requires-clause-bases
-sums-requires-clause-bases g c = c.loop.invariant.claimed.are_bases
-
-pub sums-requires-clause-small : goal.sums-requires-clause-small
-sums-requires-clause-small g c = entries-near c.loop.invariant (10 ^ 30) (omega arith)
 
 pub mean_of-requires-clause-few : goal.mean_of-requires-clause-few
 mean_of-requires-clause-few g c =
     let t = g.T.Term in
-    let is = c.deref.ensures.value ∙ c.in_ok-z.ensures in
+    let is = c.deref.ensures.value ∙ sums-kept c.loop.invariant in
     let count = length-first_values c.args.n
     (base_sum_at (meanings t.places t.value_of c.args.terms.now) c.loop.graph.bases) in
     rw (is, count) c.loop.invariant.claimed.bounded.few
 
 pub mean_of-requires-clause-small : goal.mean_of-requires-clause-small
 mean_of-requires-clause-small g c =
-    rw (c.deref.ensures.value ∙ c.in_ok-z.ensures) (sums-near c.loop.invariant)
+    rw (c.deref.ensures.value ∙ sums-kept c.loop.invariant) (sums-near c.loop.invariant)
 
 pub least_at-requires-in-loop-clause-slope : goal.least_at-requires-in-loop-clause-slope
 least_at-requires-in-loop-clause-slope g c =

@@ -7,9 +7,15 @@ use Rattle.sfm_cert.specs.Solved.{form_of}
 use Rattle.sfm_squares.specs.Level.{squares}
 use Rattle.sfm_level.specs.Sums.{sums_of}
 use Rattle.sfm_level.proofs.Forms.{told_formed, told_true}
-use Rattle.sfm_level.proofs.Values.{sums_are}
+use Rattle.sfm_level.proofs.Values.{sums_are, sums_only}
 use Rattle.sfm_level.proofs.levelling.level.Goals as goal
 use Rattle.sfm_level.proofs.levelling.level.Goals.{After-deref}
+
+-- what the bases add up to
+summed : (c : After-deref) → c.in_ok-vector.vector.items ≡ sums_of (meanings kind_places kind_value c.terms-terms.result.now) c.names_len-n.result c.in_ok-bases.bases
+summed c =
+    let are = c.in_ok-vector.ensures in
+    sums_only (meanings kind_places kind_value c.terms-terms.result.now) c.names_len-n.result c.in_ok-bases.bases c.in_ok-vector.vector.items (record { places = are.places; exact = are.exact })
 
 -- the squares are few
 near : (c : After-deref) → squares c.deref.result.now ≤ℤ pos (11 * 10 ^ 28)
@@ -17,7 +23,7 @@ near c =
     let ts = meanings kind_places kind_value c.terms-terms.result.now in
     let n = c.names_len-n.result in
     let bases = c.in_ok-bases.bases in
-    rw (c.deref.ensures.value ∙ c.in_ok-vector.ensures)
+    rw (c.deref.ensures.value ∙ summed c)
     (c.in_ok-bases.ensures.squares (sums_of ts n bases) (sums_are ts n bases))
 
 pub squares_of-requires : goal.squares_of-requires
@@ -32,7 +38,7 @@ returns-clause-is_true c =
     = c.squares_of.ensures ∙ ap squares (c.deref.ensures.value ∙ sym c.from_vec.ensures) in
     simp to_z-of_z (rw (← c.terms-terms.ensures.terms, ← c.names_len-n.ensures.len)
     (told_true ts c.names_len-n.result c.in_ok-bases.bases c.from_vec.result c.squares_of.result
-    r.bases r.level (c.from_vec.ensures ∙ c.in_ok-vector.ensures) sum))
+    r.bases r.level (c.from_vec.ensures ∙ summed (goal.at.returns-clause-is_true c).After-deref) sum))
 
 pub returns-clause-formed : goal.returns-clause-formed
 returns-clause-formed c =
@@ -45,7 +51,7 @@ returns-clause-formed c =
     = c.squares_of.ensures ∙ ap squares same in
     let few = rw same at (near (goal.at.returns-clause-formed c).After-deref) in
     let count : length c.from_vec.result ≡ length c.args.instance.now.names
-    = ap length (c.from_vec.ensures ∙ c.in_ok-vector.ensures)
+    = ap length (c.from_vec.ensures ∙ summed (goal.at.returns-clause-formed c).After-deref)
     ∙ ((sums_are ts c.names_len-n.result c.in_ok-bases.bases).places ∙ c.names_len-n.ensures.len) in
     simp to_z-of_z (told_formed (form_of c.args.instance.now) c.args.instance.now.terms
     c.in_ok-bases.bases c.from_vec.result c.squares_of.result refl

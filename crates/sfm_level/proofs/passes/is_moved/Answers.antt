@@ -8,20 +8,17 @@ use Rattle.sfm_spec.specs.Walks.{Step, Joins}
 use Rattle.sfm_exchange.proofs.ClaimedGraphs.{are_terms}
 use Rattle.sfm_level.specs.Sums.{sums_of}
 use Rattle.sfm_level.proofs.Chains.{below_more, none_rises}
-use Rattle.sfm_level.proofs.Kept.{entries-near, sums-near}
+use Rattle.sfm_level.proofs.Kept.{sums-kept, sums-near}
 use Rattle.sfm_level.proofs.Values.{get_or-first_values, length-first_values}
 use Rattle.sfm_level.proofs.passes.is_moved.Goals as goal
 use Rattle.sfm_level.proofs.passes.is_moved.Goals.{then-branch, else-branch}
-
-pub sums-requires-clause-small : goal.sums-requires-clause-small
-sums-requires-clause-small g c = entries-near c.requires (10 ^ 30) (omega arith)
 
 pub overflow_add-a : goal.overflow_add-a
 overflow_add-a g c =
     let t = g.T.Term in
     let k = c.loop-a.a-index in
     let z = c.deref-a-items.result.now in
-    let is = c.deref-a-items.ensures.value ∙ c.in_ok-z.ensures in
+    let is = c.deref-a-items.ensures.value ∙ (c.in_ok-z.ensures.items ∙ (c.deref.ensures.value ∙ sums-kept c.requires)) in
     let a = get_or z k (pos 0) in
     let small : IsAtMost (10 ^ 15) a
     = All-get_or (IsAtMost (10 ^ 15)) z k (pos 0) c.loop-a-test.true
@@ -34,7 +31,7 @@ prove_at-requires-clause-slope g c =
     let t = g.T.Term in
     let k = c.loop-a.a-index in
     let z = c.deref-a-items.result.now in
-    let is = c.deref-a-items.ensures.value ∙ c.in_ok-z.ensures in
+    let is = c.deref-a-items.ensures.value ∙ (c.in_ok-z.ensures.items ∙ (c.deref.ensures.value ∙ sums-kept c.requires)) in
     let a = get_or z k (pos 0) in
     let small : IsAtMost (10 ^ 15) a
     = All-get_or (IsAtMost (10 ^ 15)) z k (pos 0) c.loop-a-test.true
@@ -55,7 +52,7 @@ loop-a-preserved g c =
     let f = base_sum_at ts before in
     let k = c.loop-a.a-index in
     let z = c.deref-a-items.result.now in
-    let is : z ≡ sums_of ts n before = c.deref-a-items.ensures.value ∙ c.in_ok-z.ensures in
+    let is : z ≡ sums_of ts n before = c.deref-a-items.ensures.value ∙ (c.in_ok-z.ensures.items ∙ (c.deref.ensures.value ∙ sums-kept c.requires)) in
     let a = get_or z k (pos 0) in
     let small : IsAtMost (10 ^ 15) a
     = All-get_or (IsAtMost (10 ^ 15)) z k (pos 0) c.loop-a-test.true
@@ -101,7 +98,7 @@ returns-clause-none g c =
     let n = c.args.n in
     let before = c.args.graph.now.bases in
     let is : c.deref-a-items.result.now ≡ sums_of ts n before
-    = c.deref-a-items.ensures.value ∙ c.in_ok-z.ensures in
+    = c.deref-a-items.ensures.value ∙ (c.in_ok-z.ensures.items ∙ (c.deref.ensures.value ∙ sums-kept c.requires)) in
     let count : length c.deref-a-items.result.now ≡ n
     = ap length is ∙ length-first_values n (base_sum_at ts before) in
     let claimed = c.requires.claimed in

@@ -1,6 +1,6 @@
 use Rattle.std.proofs.Common.{◌≡◌, take}
 use Rattle.sfm_squares.specs.Level.{squares}
-use Rattle.sfm_level.proofs.sums.squares_of.Given as goal
+use Rattle.sfm_level.proofs.squares.squares_of.Given as goal
 
 -- the squares so far are added
 abbrev pub invariant-loop-a : goal.invariant-loop-a

@@ -3,7 +3,7 @@ use Rattle.std.proofs.lemmas.Int.{ints, to_z-of_z}
 use mir.Syntax.{w128}
 use Rattle.sfm_squares.specs.Level.{squares}
 use Rattle.sfm_level.proofs.Bounds.{root-small, square-each, square-low, squares-low, squares-more, squares-part}
-use Rattle.sfm_level.proofs.sums.squares_of.Goals as goal
+use Rattle.sfm_level.proofs.squares.squares_of.Goals as goal
 
 pub overflow_mul-sum : goal.overflow_mul-sum
 overflow_mul-sum c =
