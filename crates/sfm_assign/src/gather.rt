@@ -61,12 +61,10 @@ fn held_cell(shares: &Shares, s: usize) -> Option<usize>
         shares.now.cells.slots.items shares.now.y.items s h → ⊥)
         (IsHeldBy shares.now.cells.whos.items shares.now.cells.slots.items shares.now.y.items s) }
 {
-    let mut next = shares.cells.by_slot.head(s);
-    while let Some(f) = next {
-        if shares.y[f] > 0 {
-            return Some(f);
+    for f in shares.cells.by_slot.list(s) {
+        if shares.y[*f] > 0 {
+            return Some(*f);
         }
-        next = shares.cells.by_slot.nexts[f];
     }
     None
 }
@@ -201,16 +199,14 @@ pub(crate) fn gather(
         (slice_set to.new u true))) }
 {
     to.clear();
-    let mut next = split.shares.cells.by_who.head(u);
-    while let Some(e) = next {
-        let s = split.shares.cells.slots[e];
+    for e in split.shares.cells.by_who.list(u) {
+        let s = split.shares.cells.slots[*e];
         if split.rooms[s] > 0 {
             return Ok(true);
         }
         if take_slot(alloc, at, split, answers, s, to)? {
             return Ok(true);
         }
-        next = split.shares.cells.by_who.nexts[e];
     }
     Ok(false)
 }

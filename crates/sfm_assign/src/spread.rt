@@ -317,13 +317,14 @@ impl Spread {
             shares.now.y.items rooms.now self.old.from)) }
     {
         let s = shares.cells.slots[e];
-        let mut at = shares.cells.by_slot.head(s);
-        while let Some(own) = at {
-            let link = Link { own, other: e };
+        for own in shares.cells.by_slot.list(s) {
+            let link = Link {
+                own: *own,
+                other: e,
+            };
             if let Some(answer) = self.find(alloc, shares, rooms, answers, link)? {
                 return Ok(Some(answer));
             }
-            at = shares.cells.by_slot.nexts[own];
         }
         self.marks.insert(s);
         Ok(None)
@@ -395,12 +396,10 @@ impl Spread {
             shares.now.y.items rooms.now self.old.from)) }
     {
         let g = self.queue[self.next];
-        let mut at = shares.cells.by_who.head(g);
-        while let Some(e) = at {
-            if let Some(answer) = self.visit(alloc, shares, rooms, answers, e)? {
+        for e in shares.cells.by_who.list(g) {
+            if let Some(answer) = self.visit(alloc, shares, rooms, answers, *e)? {
                 return Ok(Some(answer));
             }
-            at = shares.cells.by_who.nexts[e];
         }
         self.next += 1;
         Ok(None)

@@ -2,7 +2,8 @@ pub mod Amounts
 pub mod Rows
 pub mod Hall
 pub mod Leaving
-pub mod Linking
+pub mod Placing
+pub mod Grouping
 pub mod Searches
 pub mod Clearing
 pub mod Queues

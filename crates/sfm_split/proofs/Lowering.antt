@@ -169,7 +169,7 @@ module _ (whos slots : List ℕ) (y lacks rooms : List ℤ) where
     given_back e a over lt all some Demands = let p = w.charge.cells in given_all y lacks e (label_at whos e) a over (omega (arith, lt, p)) (charged_cells.owned e lt) all some
     given_back e a over lt all some Slots = let p = w.charge.cells in given_all y rooms e (label_at slots e) a over (omega (arith, lt, p)) (charged_cells.exist e lt) all some
 
-    -- a chain that was gone along to its end
+    -- the cells of a total, all gone through
     pub side_mended : (side : Side) (k : ℕ) → k < length (of_side side lacks rooms) → ((e : ℕ) → e < length (of_side side whos slots) → label_at (of_side side whos slots) e ≡ k → IsSpent (of_side side lacks rooms) k y e) → pos 0 ≤ℤ amount_at (of_side side lacks rooms) k
     side_mended Demands k lt none =
         let p = w.charge.lacks_are.places in

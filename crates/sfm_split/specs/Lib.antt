@@ -1,6 +1,6 @@
 pub mod Splits
 pub mod Cells
-pub mod Chains
+pub mod Groups
 pub mod Search
 pub mod Pours
 pub mod Lowers

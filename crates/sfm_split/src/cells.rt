@@ -1,20 +1,21 @@
 // The cells of demands in one list: a cell is a demand with one entry of its list. The cells of each demand and those of each
-// slot are linked, so that they are gone through without a look at the others.
+// slot stand in a list, so that they are gone through without a look at the others.
 ghost use Rattle.std.specs.{Prelude.{◌≡◌, ◌<◌, ◌++◌, length, pos, replicate, IfOk, OnOk}, List.{All}};
-ghost use Rattle.sfm_split.specs.{Cells.{joined, owners}, Chains.{AreChains}};
+ghost use Rattle.sfm_split.specs.{Cells.{joined, owners}, Groups.{AreGroups}};
 
-use crate::chains::Chains;
+use crate::groups::Groups;
 use sfm_base::{Lists, Memory};
 use std::alloc::Global;
 
-/// The demand and the slot of each cell, in the order of the demands and of their lists, and the chains of these.
+/// The demand and the slot of each cell, in the order of the demands and of their lists, and the list of the cells of each demand
+/// and of each slot.
 pub struct Cells {
     pub whos: Vec<usize>,
     pub slots: Vec<usize>,
-    pub by_who: Chains,
-    pub by_slot: Chains,
-    ghost whos_chained: { AreChains whos.items by_who.heads.items by_who.nexts.items },
-    ghost slots_chained: { AreChains slots.items by_slot.heads.items by_slot.nexts.items },
+    pub by_who: Groups,
+    pub by_slot: Groups,
+    ghost whos_grouped: { AreGroups whos.items by_who },
+    ghost slots_grouped: { AreGroups slots.items by_slot },
 }
 
 // Written out, so that letting one go is one step, which is proved here once.
@@ -59,8 +60,8 @@ impl Cells {
         for i in 0..lists.len() {
             add(&mut whos, &mut slots, i, lists.at(i))?;
         }
-        let by_who = Chains::of(alloc, lists.len(), &whos)?;
-        let by_slot = Chains::of(alloc, m, &slots)?;
+        let by_who = Groups::of(alloc, lists.len(), &whos)?;
+        let by_slot = Groups::of(alloc, m, &slots)?;
         Ok(Cells {
             whos,
             slots,

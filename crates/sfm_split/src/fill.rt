@@ -54,13 +54,11 @@ fn drain(cells: &Cells, search: &Search, s: usize, left: &mut Lefts, y: &mut [i1
         left.old.rooms.items y.new left.new.lacks.items left.new.rooms.items }
     ensures same { left.new.lacking.items ≡ left.old.lacking.items }
 {
-    let mut at = cells.by_slot.head(s);
-    while let Some(e) = at {
+    for e in cells.by_slot.list(s) {
         if left.rooms[s] <= 0 {
             return;
         }
-        raise(cells, search, e, left, y);
-        at = cells.by_slot.nexts[e];
+        raise(cells, search, *e, left, y);
     }
 }
 

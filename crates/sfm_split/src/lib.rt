@@ -4,10 +4,10 @@
 
 mod augment;
 mod cells;
-mod chains;
 mod change;
 mod demand;
 mod fill;
+mod groups;
 mod grown;
 mod left;
 mod lower;
@@ -20,9 +20,9 @@ mod splitting;
 mod work;
 
 pub use cells::Cells;
-pub use chains::Chains;
 pub use change::{Aim, begin, find_amounts};
 pub use demand::Demand;
+pub use groups::Groups;
 pub use grown::raise_most;
 pub use left::{Lefts, left_of};
 pub use nodes::Link;

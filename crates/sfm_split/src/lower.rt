@@ -1,14 +1,14 @@
 // Amounts that meet demands, brought within other demands and other capacities. Where a total changes, what is left of it changes as
-// much; it is below nothing where the amounts are too much then. There the chain of the demand, or of the slot, is gone along, and
-// the amounts on its cells are lowered and given back to their demands and slots. At the end of a chain nothing stands on it, and
+// much; it is below nothing where the amounts are too much then. There the cells of the demand, or of the slot, are gone through,
+// and the amounts on them are lowered and given back to their demands and slots. At the end nothing stands on these cells, and
 // no demand or capacity is negative, so nothing is too much there. What is left only rises, so what was mended stays so. First
 // all slots are gone through and then all demands, so that what a demand lacks in the end is known once it was passed.
 ghost use Rattle.std.specs.{Prelude.{◌≡◌, ◌≢◌, ℕ, ◌+◌, ◌<◌, ◌^◌, List, length, ℤ, pos, ◌+ℤ◌, ◌-ℤ◌, ◌≤ℤ◌, OnOk}, List.{All}};
-ghost use Rattle.sfm_split.specs.{Splits.{amount_at, IsAmount, IsCapacity}, Cells.{label_at}, Chains.{AreChains}, Search.{ListsLacking}, Lowers.{AreCharged, AreLowered, IsStanding, IsTotal, StandsBy, turned, CanPut, lacks_put, rooms_put}, Sides.{of_side}, declared.lower.Side.{Side}};
+ghost use Rattle.sfm_split.specs.{Splits.{amount_at, IsAmount, IsCapacity}, Cells.{label_at}, Groups.{AreGroups}, Search.{ListsLacking}, Lowers.{AreCharged, AreLowered, IsStanding, IsTotal, StandsBy, turned, CanPut, lacks_put, rooms_put}, Sides.{of_side}, declared.lower.Side.{Side}};
 
 use crate::augment::{put, take};
 use crate::cells::Cells;
-use crate::chains::Chains;
+use crate::groups::Groups;
 use crate::left::Lefts;
 use sfm_base::Memory;
 
@@ -81,10 +81,9 @@ impl Side {
         }
     }
 
-    /// The chains of the side.
-    fn chains(self, cells: &Cells) -> &Chains
-        ensures { AreChains (of_side self cells.now.whos.items cells.now.slots.items)
-            result.now.heads.items result.now.nexts.items }
+    /// The cells of each total of the side.
+    fn groups(self, cells: &Cells) -> &Groups
+        ensures { AreGroups (of_side self cells.now.whos.items cells.now.slots.items) result.now }
     {
         match self {
             Side::Demands => &cells.by_who,
@@ -106,15 +105,12 @@ fn lower_along(cells: &Cells, side: Side, k: usize, left: &mut Lefts, y: &mut [i
         ≡ amount_at (of_side side left.old.lacks.items left.old.rooms.items) j }
     ensures same { left.new.lacking.items ≡ left.old.lacking.items }
 {
-    let chains = side.chains(cells);
-    let mut at = chains.head(k);
-    while let Some(e) = at {
+    for e in side.groups(cells).list(k) {
         let over = side.excess(left, k);
         if over <= 0 {
             return;
         }
-        lower_on(cells, e, over, left, y);
-        at = chains.nexts[e];
+        lower_on(cells, *e, over, left, y);
     }
 }
 

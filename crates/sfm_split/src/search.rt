@@ -194,10 +194,12 @@ impl Search {
             self.new.nodes.items self.new.queue.items) }
     {
         let s = cells.slots[e];
-        let mut at = cells.by_slot.head(s);
-        while let Some(own) = at {
-            self.find(cells, y, Link { own, other: e })?;
-            at = cells.by_slot.nexts[own];
+        for own in cells.by_slot.list(s) {
+            let link = Link {
+                own: *own,
+                other: e,
+            };
+            self.find(cells, y, link)?;
         }
         self.marks[s] = true;
         Ok(())
@@ -227,16 +229,14 @@ impl Search {
             → Has self.new.marks.items (label_at cells.now.slots.items e))
             (IsEnd cells.now.whos.items cells.now.slots.items rooms.now self.new.nodes.items)) }
     {
-        let mut at = cells.by_who.head(i);
-        while let Some(e) = at {
-            let s = cells.slots[e];
+        for e in cells.by_who.list(i) {
+            let s = cells.slots[*e];
             if !self.marks[s] {
                 if rooms[s] > 0 {
-                    return Ok(Some(e));
+                    return Ok(Some(*e));
                 }
-                self.sweep(cells, y, e)?;
+                self.sweep(cells, y, *e)?;
             }
-            at = cells.by_who.nexts[e];
         }
         Ok(None)
     }

@@ -46,11 +46,11 @@ of-requires-2 c =
     let same = cells.same in
     record { below = rw (c.deref-2.ensures.value, all (goal.at.of-requires-2 c).After-loop-i) (λ e lt. cells.exist e (omega (arith, lt, same))) }
 
-pub invariant_of-result-clause-whos_chained : goal.invariant_of-result-clause-whos_chained
-invariant_of-result-clause-whos_chained c = rw c.deref.ensures.value at c.in_ok-by_who.ensures
+pub invariant_of-result-clause-whos_grouped : goal.invariant_of-result-clause-whos_grouped
+invariant_of-result-clause-whos_grouped c = rw c.deref.ensures.value at c.in_ok-by_who.ensures
 
-pub invariant_of-result-clause-slots_chained : goal.invariant_of-result-clause-slots_chained
-invariant_of-result-clause-slots_chained c = rw c.deref-2.ensures.value at c.in_ok-by_slot.ensures
+pub invariant_of-result-clause-slots_grouped : goal.invariant_of-result-clause-slots_grouped
+invariant_of-result-clause-slots_grouped c = rw c.deref-2.ensures.value at c.in_ok-by_slot.ensures
 
 pub returns-clause-whos : goal.returns-clause-whos
 returns-clause-whos c = whole (goal.at.returns-clause-whos c).After-loop-i
