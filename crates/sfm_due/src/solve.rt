@@ -1,16 +1,17 @@
 // From an instance to the bytes of its answer: bases that prove the minimum are found by walks of exchanges, what they tell is
-// read off them, and all slopes are sought, each with its bases, by the graphs that the minimum was found with. Elements have sizes, by which the slopes go; the minimum does
-// not depend on them. To solve an instance is to weigh it where each element counts one.
+// read off the graph that is there, and all slopes are sought, each with its bases, by the graphs that the minimum was found
+// with. Elements have sizes, by which the slopes go; the minimum does not depend on them. To solve an instance is to weigh it
+// where each element counts one.
 ghost use Rattle.std.specs.Prelude.{◌≡◌, IfOk, IfErr, length};
 ghost use Rattle.sfm_spec.specs.Laws.{ones};
 ghost use Rattle.sfm_sizes.specs.Sizes.{AreElementSizes};
-ghost use Rattle.sfm_cert.specs.{Form.{IsFormed}, Header.{header_text}, Solved.{answer_of, form_of}};
+ghost use Rattle.sfm_cert.specs.{Header.{header_text}, Solved.{answer_of}};
 ghost use Rattle.sfm_text.specs.GoodText.{IsRefusalOf};
-ghost use Rattle.sfm_due.specs.{Due.{IsAsked, IsSolved, IsSolvedBy, Question}, Meanings.{meanings_of, question_of}, Solving.{IsTrueAnswer}};
+ghost use Rattle.sfm_due.specs.{Due.{IsAsked, IsSolved, IsSolvedBy, Question}, Meanings.{question_of}, Solving.{IsTrueAnswer}};
 
 use sfm_base::Memory;
 use sfm_cert::{Header, Solved, write_with};
-use sfm_extreme::{Minimisers, Proved, read_minimisers};
+use sfm_extreme::{Minimisers, Proved, minimisers_at};
 use sfm_kind::Instance;
 use sfm_sizes::ones;
 use sfm_slope::{Search, partition_with};
@@ -30,7 +31,7 @@ pub fn solve_by(alloc: Global, instance: &Instance, sizes: &[i128]) -> Result<So
     let n = instance.names_len();
     let mut search = Search::new(alloc, terms, n)?;
     let bases = search.optimum(terms)?;
-    let found = read_minimisers(alloc, terms, n, &bases)?;
+    let found = minimisers_at(alloc, terms, n, &search.cold)?;
     let breaks = partition_with(&mut search, terms, sizes)?;
     let Minimisers { proved, blocks } = found;
     let Proved {

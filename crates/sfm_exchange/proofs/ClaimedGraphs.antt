@@ -18,19 +18,20 @@ use Rattle.sfm_exchange.specs.declared.graph.Graph.{Graph}
 use Rattle.sfm_exchange.specs.declared.renewing.Changes.{Changes}
 use Rattle.sfm_reach.specs.Based.{IsPlacedBase}
 use Rattle.sfm_reach.specs.Bits.{bit_in, blank_bits, set_at}
-use Rattle.sfm_exchange.specs.Claimed.{AreClaims, IsClaim}
+use Rattle.sfm_exchange.specs.Claimed.{AreClaims, IsClaim, IsSettled}
 use Rattle.sfm_exchange.specs.Graph.{IsClaimed, IsShaped, IsWhole}
 use Rattle.sfm_exchange.specs.Sums.{AreSums}
-use Rattle.sfm_reach.specs.Reach.{AreNotes, IsRow, kept_fits, table_at}
+use Rattle.sfm_reach.specs.Reach.{AreNotes, IsRow, IsTable, kept_fits, table_at}
 use Rattle.sfm_exchange.specs.Renewed.{AreChanges}
-use Rattle.sfm_reach.specs.Spots.{spot_at, spots_at}
+use Rattle.sfm_reach.specs.declared.spots.Spot.{Spot}
+use Rattle.sfm_reach.specs.Spots.{AreSpots, spot_at, spots_at}
 use Rattle.sfm_reach.specs.Turned.{AreTurned}
 use Rattle.sfm_reach.specs.Unions.{AreRenewed, AreUnions, AreWidened, HaveLinks, HaveRows, IsArc}
 use Rattle.sfm_reach.proofs.Basing.{is_based}
 use Rattle.sfm_exchange.proofs.Claiming.{claims_asked, rows_claimed}
 use Rattle.sfm_exchange.proofs.Exchanging.{bases_set}
 use Rattle.sfm_reach.proofs.Noting.{notes_set, sized_at, sized_meanings, sized_read, sized_set, there_is}
-use Rattle.sfm_reach.proofs.Reaching.{steps_table}
+use Rattle.sfm_reach.proofs.Reaching.{steps_table, table_steps}
 use Rattle.sfm_exchange.proofs.Telling.{step_told}
 use Rattle.sfm_reach.proofs.Uniting.{have_rows, unions_renewed}
 use Rattle.sfm_exchange.proofs.Linking.{links_told}
@@ -214,6 +215,35 @@ module _ {X N : Type 0} {T : Ghosts X N} {terms : List X} {n : ℕ} {q : ℤ} {g
       let row = (h.claims spot.term (rw counted at is.term_in)).exact spot.local is.local_in (rw is.at (none j lj)) in
       let (v, lv, ne, (a, some, base), ends) = (row t).0 bit in
       (spot.term, (a, some, record { in_range = is.term_in; u = spot.local; v = v; u_in = is.local_in; v_in = lv; begins = is.at; ends = ends; apart = (λ same. ne (sym same)); base = base }))
+
+  -- where no row is claimed at any place, all are true
+  pub whole_settled : (spots : List (List Spot)) → AreSpots (meanings T.places T.value_of terms) n spots → ((e : ℕ) → e < n → IsSettled spots graph.claimed.items e) → IsWhole T terms n q graph
+  whole_settled spots are none = record {
+    bounded = h.bounded;
+    factor = h.factor;
+    exact = record {
+      are_bases = h.are_bases;
+      are_sums = h.are_sums;
+      note_count = h.note_count;
+      claim_count = h.claim_count;
+      noted = h.noted;
+      sized_rows = h.sized_rows;
+      tables = tables;
+      are_spots = h.are_spots;
+      are_unions = h.are_unions;
+      are_turned = h.are_turned;
+    };
+  } where
+    tables : (i : ℕ) → i < length terms → IsTable (meanings T.places T.value_of terms) q graph.bases i (table_at graph.rows.items i)
+    tables i l =
+        let (term, is) = there_is terms i l in
+        let li : i < length (meanings T.places T.value_of terms) = rw counted l in
+        let at : (term_at (meanings T.places T.value_of terms) i).places ≡ T.places term = ap (λ (m : Meaning). m.places) (meanings-at T.places T.value_of terms i term l is) in
+        let placed = subst (IsPlaced n) (sym at) (all-at (IsPlaced n) T.places terms i term l is h.bounded.placed) in
+        table_steps (meanings T.places T.value_of terms) q graph.bases i (table_at graph.rows.items i) li placed.distinct
+        (λ u e lu. (h.claims i l).exact u lu (λ one.
+        let (k, lk, spot) = are.complete i u li lu in
+        none (get_or (term_at (meanings T.places T.value_of terms) i).places u 0) (placed.below u lu) k lk (rw spot one)) e)
 
 -- and a graph whose rows are true is one, whatever is claimed
 module _ {X N : Type 0} {T : Ghosts X N} {terms : List X} {n : ℕ} {q : ℤ} {graph : Graph N} (h : IsWhole T terms n q graph) where

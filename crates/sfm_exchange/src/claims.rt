@@ -5,7 +5,7 @@
 ghost use Rattle.std.specs.{Prelude.{◌≡◌, ◌≢◌, ◌<◌, ℕ, length, true, false, OnOk, IfOk, slice_index_or}, List.{All}};
 ghost use Rattle.sfm_spec.specs.{Bounds.{IsEntry}, Families.{meanings}, Walks.{term_at}};
 ghost use Rattle.sfm_reach.specs.{Bits.{bit_in, set_at}, Reached.{AreWalked}, Unions.{IsArc}};
-ghost use Rattle.sfm_exchange.specs.{Claimed.{IsAsked, claims_of}, Graph.{IsClaimed, IsReady, IsStill}, Hops.{AreHops, IsMovable, hop_at}};
+ghost use Rattle.sfm_exchange.specs.{Claimed.{IsAsked, IsSettled, claims_of}, Graph.{IsClaimed, IsReady, IsStill, IsWhole}, Hops.{AreHops, IsMovable, hop_at}};
 
 use crate::graph::Graph;
 use crate::path::Hop;
@@ -110,6 +110,8 @@ fn ask_place<T: Term>(
     requires ready { IsReady T.Term terms.now q graph.old }
     requires place { e < length graph.old.spots.items }
     ensures still { OnOk result (IsStill T.Term terms.now q graph.old graph.new) }
+    ensures spots { OnOk result (graph.new.spots.items ≡ graph.old.spots.items) }
+    ensures settled { OnOk result (IsSettled graph.old.spots.items graph.new.claimed.items e) }
     ensures exact { OnOk result ((t : ℕ) → bit_in (set_at graph.new.unions.items e) t ≡ 1
         → IsArc (meanings T.places T.value_of terms.now) q graph.old.bases e t) }
     ensures kept { OnOk result ((j t : ℕ) → bit_in (set_at graph.old.claimed.items j) t ≢ 1
@@ -152,6 +154,8 @@ fn settle_place<T: Term>(
     requires claimed { (j t : ℕ) → bit_in (set_at graph.old.claimed.items j) t ≡ 1
         → bit_in claimed.now t ≡ 1 }
     ensures still { OnOk result (IsStill T.Term terms.now q graph.old graph.new) }
+    ensures spots { OnOk result (graph.new.spots.items ≡ graph.old.spots.items) }
+    ensures settled { OnOk result (IsSettled graph.old.spots.items graph.new.claimed.items e) }
     ensures exact { OnOk result ((t : ℕ) → bit_in (set_at graph.new.unions.items e) t ≡ 1
         → IsArc (meanings T.places T.value_of terms.now) q graph.old.bases e t) }
     ensures kept { OnOk result ((j t : ℕ) → bit_in (set_at graph.old.claimed.items j) t ≢ 1
@@ -195,4 +199,29 @@ pub fn walked_from<T: Term>(
         take_in(row, &mut found, &mut ahead);
     }
     Ok(found)
+}
+
+/// Asks for the rows that are only claimed, so that each tells the steps that there are. After want of memory nothing is said
+/// of the graph.
+///
+/// # Errors
+///
+/// `Memory` where there is none.
+pub fn ask_claimed<T: Term>(
+    alloc: Global,
+    graph: &mut Graph<T::Note>,
+    terms: &[T],
+    q: i128,
+) -> Result<(), Memory>
+    requires graph { IsClaimed T.Term terms.now (length graph.old.spots.items) q graph.old }
+    requires small { All (λ x. All IsEntry x) graph.old.bases }
+    ensures graph { OnOk result (IsWhole T.Term terms.now (length graph.old.spots.items) q
+        graph.new) }
+    ensures bases { OnOk result (graph.new.bases ≡ graph.old.bases) }
+{
+    let claimed = claimed_places(&graph.claimed);
+    for e in 0..graph.spots.len() {
+        settle_place(alloc, graph, terms, q, &claimed, e)?;
+    }
+    Ok(())
 }

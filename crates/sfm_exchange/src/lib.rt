@@ -15,7 +15,7 @@ mod renewing;
 mod signs;
 mod sums;
 
-pub use claims::{prove_walk, walked_from};
+pub use claims::{ask_claimed, prove_walk, walked_from};
 pub use graph::{Graph, graph_at, restart};
 pub use levels::find_levels;
 pub use moving::{amount_of, move_along};

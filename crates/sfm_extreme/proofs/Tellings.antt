@@ -4,7 +4,7 @@ use Rattle.std.proofs.lemmas.Bool.{both_ways, cases_eq, cases_lt}
 use Rattle.std.proofs.lemmas.List.{get_or_past}
 use Rattle.sfm_law.specs.declared.term.Term.{Ghosts}
 use Rattle.sfm_spec.specs.Sets.{Has, complement}
-use Rattle.sfm_spec.specs.Terms.{SetFunction, IsFamily, IsSubmodular}
+use Rattle.sfm_spec.specs.Terms.{IsFamily, IsSubmodular}
 use Rattle.sfm_spec.specs.Families.{meanings, IsLeast, IsGreatest, Prove}
 use Rattle.sfm_spec.specs.Blocks.{IsFree, PullsAlong}
 use Rattle.sfm_spec.proofs.Sets.{has_or_not}
@@ -27,8 +27,8 @@ pub square_of : {unions : List Bits} {outside : Bits} {rows : List (List Bool)} 
 square_of pulls e l = (pulls.each e (rw (← pulls.count) l)).same.places ∙ sym pulls.count
 
 module _ {X N : Type 0} {T : Ghosts X N} {terms : List X} {n : ℕ} {q : ℤ} {shift : List ℤ} {reading : Reading N} (h : IsReading T terms n q shift reading)
-    (family : (x : X) → IsFamily (length (T.places x)) (T.value_of x)) (law : (x : X) → IsSubmodular (length (T.places x)) (T.value_of x)) (prove : Prove (meanings T.places T.value_of terms) n q shift reading.graph.bases)
-    (outside : Bits) (joined : (e : ℕ) → bit_in outside e ≡ max (bit_in reading.reached e) (bit_in reading.leading e)) (rows : List (List Bool)) (pulls : ArePullRows reading.graph.unions.items outside rows) where
+    (family : (x : X) → IsFamily (length (T.places x)) (T.value_of x)) (law : (x : X) → IsSubmodular (length (T.places x)) (T.value_of x)) (prove : Prove (meanings T.places T.value_of terms) n q shift reading.graph.now.bases)
+    (outside : Bits) (joined : (e : ℕ) → bit_in outside e ≡ max (bit_in reading.reached e) (bit_in reading.leading e)) (rows : List (List Bool)) (pulls : ArePullRows reading.graph.now.unions.items outside rows) where
   -- the least minimiser, and the places outside the greatest
   reached : (s : List Bool) × IsSetOf reading.reached n s
   reached = as_set reading.reached n
@@ -72,7 +72,7 @@ module _ {X N : Type 0} {T : Ghosts X N} {terms : List X} {n : ℕ} {q : ℤ} {s
     (λ mid. (free_exactly (meanings T.places T.value_of terms) n q shift reached.0 (complement leading.0) least_is greatest_is e).1 (in_greatest e l mid, not_least e l mid)),
   )
 
-  base_at : (e : ℕ) → e < n → IsPullSet reading.graph.unions.items outside e (row_of rows e)
+  base_at : (e : ℕ) → e < n → IsPullSet reading.graph.now.unions.items outside e (row_of rows e)
   base_at e l = pulls.each e (rw (unions_count h.whole) l)
 
   none_in_nil : (s : List Bool) (d : ℕ) → s ≡ [] → Has s d → ⊥
@@ -91,7 +91,7 @@ module _ {X N : Type 0} {T : Ghosts X N} {terms : List X} {n : ℕ} {q : ℤ} {s
 
   exact : (e d : ℕ) → e < n → d < n → bit_in outside e ≢ 1 → bit_in outside d ≢ 1 → Pulls rows e d ↔ PullsAlong (meanings T.places T.value_of terms) n q shift e d
   exact e d le ld me md = (to, from) where
-    row : IsPullSet reading.graph.unions.items outside e (row_of rows e)
+    row : IsPullSet reading.graph.now.unions.items outside e (row_of rows e)
     row = base_at e le
 
     found : (s : List Bool) × IsSetOf row.is_row.found n s
@@ -101,8 +101,8 @@ module _ {X N : Type 0} {T : Ghosts X N} {terms : List X} {n : ℕ} {q : ℤ} {s
     along =
         let fit = are_terms h.whole family law in
         let bases = h.whole.exact.are_bases in
-        pulls_exactly (meanings T.places T.value_of terms) reading.graph.bases n q shift (low h.whole) fit bases prove reached.0 (complement leading.0) least_is greatest_is e d found.0 le
-        (walks_reach (meanings T.places T.value_of terms) reading.graph.bases n q (low h.whole) fit bases reading.graph.unions.items (links_are h.whole family law) row.is_row.firsts row.is_row.found found.0 found.1 (λ k. k ≡ e)
+        pulls_exactly (meanings T.places T.value_of terms) reading.graph.now.bases n q shift (low h.whole) fit bases prove reached.0 (complement leading.0) least_is greatest_is e d found.0 le
+        (walks_reach (meanings T.places T.value_of terms) reading.graph.now.bases n q (low h.whole) fit bases reading.graph.now.unions.items (links_are h.whole family law) row.is_row.firsts row.is_row.found found.0 found.1 (λ k. k ≡ e)
         (λ k. ((λ one. let same = ((row.is_row.firsts_are k).0 one).0 in (rw same le, same)), (λ (l, same). (row.is_row.firsts_are k).1 (same, rw same me)))) row.is_row.reached)
         (in_greatest e le me)
 

@@ -7,7 +7,7 @@ ghost use Rattle.sfm_extreme.specs.{Certified.{IsAnswer, IsProved}, Reading.{IsR
 
 use crate::deficit::deficit_of;
 use crate::joining::joining_walk;
-use crate::reading::{Reading, read_at};
+use crate::reading::{Reading, graph_of, read_graph};
 use sfm_base::{Memory, Rows, Set};
 use sfm_exchange::set_of;
 use sfm_law::{Term, Walk};
@@ -89,7 +89,8 @@ pub fn certify_at<T: Term>(
     ensures exact { IfOk result (λ r. IsProved r ↔ Prove
         (meanings T.places T.value_of terms.now) n q shift.now bases.now) }
 {
-    let reading = read_at(alloc, terms, q, shift, bases)?;
+    let graph = graph_of(alloc, terms, n, q, bases)?;
+    let reading = read_graph(alloc, terms, shift, &graph)?;
     told_by(alloc, terms, q, shift, &reading)
 }
 
@@ -99,15 +100,15 @@ pub(crate) fn told_by<T: Term>(
     terms: &[T],
     q: i128,
     shift: &[i128],
-    reading: &Reading<T::Note>,
+    reading: &Reading<'_, T::Note>,
 ) -> Result<Certified, Memory>
     requires reading { IsReading T.Term terms.now (length shift.now) q shift.now reading.now }
     requires shifts { magnitudes shift.now ≤ℤ pos (10 ^ 36) }
-    requires small { All (λ x. All IsEntry x) reading.now.graph.bases }
+    requires small { All (λ x. All IsEntry x) reading.now.graph.now.bases }
     ensures { IfOk result (λ r. IsAnswer (meanings T.places T.value_of terms.now)
-        (length shift.now) q shift.now reading.now.graph.bases r
+        (length shift.now) q shift.now reading.now.graph.now.bases r
         × (IsProved r ↔ Prove (meanings T.places T.value_of terms.now)
-        (length shift.now) q shift.now reading.now.graph.bases)) }
+        (length shift.now) q shift.now reading.now.graph.now.bases)) }
 {
     let joins = joining_walk(alloc, terms, q, shift, reading)?;
     match joins {

@@ -8,7 +8,7 @@ ghost use Rattle.sfm_extreme.specs.{Blocks.{block_of}, Reading.{IsReading}, Pull
 
 use crate::firsts::firsts_in_order;
 use crate::pulling::pull_rows;
-use crate::reading::{Reading, read_at};
+use crate::reading::{Reading, graph_of, read_graph};
 use sfm_base::{Memory, Rows, Set};
 use sfm_exchange::Bits;
 use sfm_law::Term;
@@ -57,7 +57,8 @@ pub fn blocks<T: Term>(
         (even_shift n (pos 0)) (map block_of r.items)) }
 {
     let shift = vec![in alloc; 0i128; n]?;
-    let reading = read_at(alloc, terms, 1, &shift, bases)?;
+    let graph = graph_of(alloc, terms, n, 1, bases)?;
+    let reading = read_graph(alloc, terms, &shift, &graph)?;
     blocks_read(alloc, terms, n, &reading)
 }
 
@@ -66,11 +67,11 @@ pub(crate) fn blocks_read<T: Term>(
     alloc: Global,
     _terms: &[T],
     _n: usize,
-    reading: &Reading<T::Note>,
+    reading: &Reading<'_, T::Note>,
 ) -> Result<Vec<Block>, Memory>
     requires reading { IsReading T.Term _terms.now _n (pos 1) (even_shift _n (pos 0)) reading.now }
     requires prove { Prove (meanings T.places T.value_of _terms.now) _n (pos 1)
-        (even_shift _n (pos 0)) reading.now.graph.bases }
+        (even_shift _n (pos 0)) reading.now.graph.now.bases }
     ensures exact { IfOk result (λ r. AreBlocks (meanings T.places T.value_of _terms.now) _n (pos 1)
         (even_shift _n (pos 0)) (map block_of r.items)) }
     ensures generate { IfOk result (λ r. Generate (meanings T.places T.value_of _terms.now) _n

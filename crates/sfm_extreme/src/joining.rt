@@ -21,16 +21,16 @@ pub fn joining_walk<T: Term>(
     terms: &[T],
     _q: i128,
     _shift: &[i128],
-    reading: &Reading<T::Note>,
+    reading: &Reading<'_, T::Note>,
 ) -> Result<Option<Walk>, Memory>
     requires { IsReading T.Term terms.now (length _shift.now) _q _shift.now reading.now }
     ensures { IfOk result (λ r. MatchOption r ((first : ℕ) (steps : List Step)
-        → Joins (meanings T.places T.value_of terms.now) _q _shift.now reading.now.graph.bases first
+        → Joins (meanings T.places T.value_of terms.now) _q _shift.now reading.now.graph.now.bases first
         steps → ⊥)
-        (λ w. Joins (meanings T.places T.value_of terms.now) _q _shift.now reading.now.graph.bases
+        (λ w. Joins (meanings T.places T.value_of terms.now) _q _shift.now reading.now.graph.now.bases
         w.first w.steps)) }
 {
-    let graph = &reading.graph;
+    let graph = reading.graph;
     let mut levels = Vec::new(alloc);
     let found = find_levels(
         &graph.back,

@@ -15,4 +15,4 @@ mod reading;
 pub use deficit::deficit_of;
 pub use extremes::{Certified, Proved, certify, certify_at};
 pub use grouping::{Block, blocks};
-pub use minimisers::{Minimisers, read_minimisers};
+pub use minimisers::{Minimisers, minimisers_at, read_minimisers};

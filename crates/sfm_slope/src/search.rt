@@ -5,14 +5,15 @@
 ghost use Rattle.std.specs.{Prelude.{◌≡◌, ◌^◌, length, map, pos, ◌≤ℤ◌, IfOk, OnOk}, List.{All}};
 ghost use Rattle.sfm_spec.specs.{Bounds.{AreBounded, IsAtMost, IsEntry}, Families.{meanings, AreBases, Prove, even_shift, sized_shift}, Sets.{magnitudes}, Walks.{IsFewWalks}};
 ghost use Rattle.sfm_sizes.specs.Sizes.{AreElementSizes};
+ghost use Rattle.sfm_exchange.specs.Graph.{IsWhole};
 ghost use Rattle.sfm_slope.specs.Searches.{IsSearch};
 
 use crate::rows::first_rows;
 use sfm_base::{Memory, Rows};
-use sfm_exchange::{Graph, graph_at, graph_by};
+use sfm_exchange::{Graph, ask_claimed, graph_at, graph_by};
 use sfm_law::Term;
 use sfm_sizes::write_sized;
-use sfm_walk::minimise_from_start;
+use sfm_walk::improve_from_start;
 use std::alloc::Global;
 
 /// The factor of the graph that goes from slope to slope.
@@ -68,7 +69,8 @@ impl<N> Search<N> {
         })
     }
 
-    /// Bases of the terms that prove the minimum, reached from the first bases by few walks.
+    /// Bases of the terms that prove the minimum, reached from the first bases by few walks. One graph is that at these bases,
+    /// with all its rows asked.
     ///
     /// # Errors
     ///
@@ -77,6 +79,9 @@ impl<N> Search<N> {
         requires search { IsSearch T.Term terms.now (length self.old.shift.items) self.old }
         ensures search { OnOk result (IsSearch T.Term terms.now (length self.old.shift.items)
             self.new) }
+        ensures cold { OnOk result (IsWhole T.Term terms.now (length self.old.shift.items) (pos 1)
+            self.new.cold) }
+        ensures same { IfOk result (λ r. r ≡ self.new.cold.bases) }
         ensures bases { IfOk result (AreBases (pos 1) (meanings T.places T.value_of terms.now)) }
         ensures small { IfOk result (λ r. All (λ x. All IsEntry x) r) }
         ensures proves { IfOk result (Prove (meanings T.places T.value_of terms.now)
@@ -88,14 +93,17 @@ impl<N> Search<N> {
             (map (λ term. T.start_of term (pos 1)) terms.now)) }
     {
         self.shift.fill(0);
-        minimise_from_start(
+        improve_from_start(
             self.alloc,
             &mut self.cold,
             &self.first,
             terms,
             1,
             &self.shift,
-        )
+        )?;
+        ask_claimed(self.alloc, &mut self.cold, terms, 1)?;
+        let bases = self.cold.bases.copy(self.alloc)?;
+        Ok(bases)
     }
 }
 

@@ -17,8 +17,8 @@ pub use advance::{improve, improve_from};
 pub use following::follow;
 pub use least::least_minimiser;
 pub use optimum::{
-    Optimum, Optimum as OptimumAt, minimise, minimise_at, minimise_at_counted, minimise_counted,
-    minimise_from, minimise_from_start,
+    Optimum, Optimum as OptimumAt, improve_from_start, minimise, minimise_at, minimise_at_counted,
+    minimise_counted, minimise_from, minimise_from_start,
 };
 pub use rest::{move_rest, rest_from};
 pub use shortest_walk::shortest;

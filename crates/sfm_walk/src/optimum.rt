@@ -221,10 +221,46 @@ pub fn minimise_from<T: Term>(
     })
 }
 
-/// Bases that prove the minimum of q times the sum of the terms less the shift, reached from the first bases of the terms by
-/// few walks. The graph is made one at these bases, whatever bases and factor it was at before, and its lists are used again;
-/// the bases are then taken out of it. A second graph is at the first bases of the terms themselves, so no term is asked for a base
-/// nor for its rows there.
+/// Takes a graph to bases that prove the minimum of q times the sum of the terms less the shift, from the first bases of the terms
+/// by few walks, whatever bases and factor it was at before. Its lists are used again. A second graph is at the first bases of
+/// the terms themselves, so no term is asked for a base nor for its rows there. After want of memory nothing is said of the graph.
+///
+/// # Errors
+///
+/// `Memory` where there is none.
+pub fn improve_from_start<T: Term>(
+    alloc: Global,
+    graph: &mut Graph<T::Note>,
+    firsts: &Graph<T::Note>,
+    terms: &[T],
+    q: i128,
+    shift: &[i128],
+) -> Result<(), Memory>
+    requires bounded { AreBounded (length shift.now) (map T.places terms.now)
+        (map T.size_of terms.now) }
+    requires shifts { magnitudes shift.now ≤ℤ pos (10 ^ 27) }
+    requires factor { IsFactor q }
+    requires graph { IsShaped T.Term terms.now (length shift.now) graph.old }
+    requires firsts { IsClaimed T.Term terms.now (length shift.now) (pos 1) firsts.now }
+    requires begins { firsts.now.bases ≡ map (λ term. T.start_of term (pos 1)) terms.now }
+    ensures graph { OnOk result (IsClaimed T.Term terms.now (length shift.now) q graph.new) }
+    ensures small { OnOk result (All (λ x. All IsEntry x) graph.new.bases) }
+    ensures ends { OnOk result ((first : ℕ) (steps : List Step)
+        → Joins (meanings T.places T.value_of terms.now) q shift.now graph.new.bases first steps
+        → ⊥) }
+    ensures proves { OnOk result (Prove (meanings T.places T.value_of terms.now)
+        (length shift.now) q shift.now graph.new.bases) }
+    ensures few { OnOk result (IsFewWalks (meanings T.places T.value_of terms.now)
+        (length shift.now) q shift.now (map (λ term. T.start_of term q) terms.now)
+        graph.new.bases) }
+{
+    restart_by(alloc, graph, terms, q, firsts)?;
+    let mut steps = Steps::new();
+    improve(alloc, graph, terms, q, shift, &mut steps)?;
+    Ok(())
+}
+
+/// The bases to which `improve_from_start` takes a graph, which are taken out of it.
 ///
 /// # Errors
 ///
@@ -254,8 +290,6 @@ pub fn minimise_from_start<T: Term>(
     ensures few { IfOk result (IsFewWalks (meanings T.places T.value_of terms.now)
         (length shift.now) q shift.now (map (λ term. T.start_of term q) terms.now)) }
 {
-    restart_by(alloc, graph, terms, q, firsts)?;
-    let mut steps = Steps::new();
-    improve(alloc, graph, terms, q, shift, &mut steps)?;
+    improve_from_start(alloc, graph, firsts, terms, q, shift)?;
     Ok(mem::replace(&mut graph.bases, Rows::new(alloc)))
 }

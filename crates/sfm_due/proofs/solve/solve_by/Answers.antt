@@ -38,8 +38,14 @@ gives c =
 pub optimum-requires : goal.optimum-requires
 optimum-requires c = record { search = rw c.in_ok-search.ensures.shift c.in_ok-search.ensures }
 
-pub read_minimisers-requires-clause-prove : goal.read_minimisers-requires-clause-prove
-read_minimisers-requires-clause-prove c = rw c.in_ok-search.ensures.shift at c.in_ok-bases.ensures.proves
+pub minimisers_at-requires-clause-whole : goal.minimisers_at-requires-clause-whole
+minimisers_at-requires-clause-whole c = rw c.in_ok-search.ensures.shift at c.in_ok-bases.ensures.cold
+
+pub minimisers_at-requires-clause-small : goal.minimisers_at-requires-clause-small
+minimisers_at-requires-clause-small c = rw (← c.in_ok-bases.ensures.same) c.in_ok-bases.ensures.small
+
+pub minimisers_at-requires-clause-prove : goal.minimisers_at-requires-clause-prove
+minimisers_at-requires-clause-prove c = rw (← c.in_ok-bases.ensures.same) (rw c.in_ok-search.ensures.shift at c.in_ok-bases.ensures.proves)
 
 pub partition_with-requires-clause-sizes : goal.partition_with-requires-clause-sizes
 partition_with-requires-clause-sizes c = rw c.requires.places c.requires

@@ -78,5 +78,16 @@ returns-clause-exact g c =
     let long = ap length (c.as_slice-listed.ensures ∙ here) in
     rw inv.0.bases at (arcs_alone inv.0.claimed c.args.e c.requires.place (rw inv.1 (λ j l. inv.2 j (omega (arith, l, long, c.loop-k-test.false)))))
 
+pub returns-clause-spots : goal.returns-clause-spots
+returns-clause-spots g c = c.loop-k.invariant.1
+
+pub returns-clause-settled : goal.returns-clause-settled
+returns-clause-settled g c =
+    let inv = c.loop-k.invariant in
+    let spots = c.args.graph.now.spots.items in
+    let here : c.index-here.result.now ≡ spots_at spots c.args.e = c.index-here.ensures ∙ get_or_default spots c.args.e c.index-here.result.now [] c.requires.place in
+    let long = ap length (c.as_slice-listed.ensures ∙ here) in
+    λ j l. inv.2 j (omega (arith, l, long, c.loop-k-test.false))
+
 pub returns-clause-kept : goal.returns-clause-kept
 returns-clause-kept g c = c.loop-k.invariant.3

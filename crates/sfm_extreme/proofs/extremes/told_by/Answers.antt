@@ -19,7 +19,7 @@ returns-in-Some g c =
     let q = c.args.q in
     let shift = c.args.shift.now in
     let ts = meanings t.places t.value_of c.args.terms.now in
-    let graph = c.args.reading.now.graph in
+    let graph = c.args.reading.now.graph.now in
     let h = c.requires.reading in
     let walk = c.in-Some.walk in
     let joins : Joins ts q shift graph.bases walk.first walk.steps = simp to_z-of_z at (match_some c.in_ok-joins.joins walk _ _ c.in_ok-joins.ensures c.in-Some.is) in
@@ -30,7 +30,7 @@ deficit_of-requires g c =
     let t = g.T.Term in
     let h = c.requires.reading in
     let b = h.whole.bounded in
-    rw c.deref.ensures.value (rest-total t.places t.value_of c.args.terms.now c.args.shift.now c.args.reading.now.graph.bases c.args.reading.now.z.items h.is_rest c.requires.small b.few_places b.few c.requires.shifts)
+    rw c.deref.ensures.value (rest-total t.places t.value_of c.args.terms.now c.args.shift.now c.args.reading.now.graph.now.bases c.args.reading.now.z.items h.is_rest c.requires.small b.few_places b.few c.requires.shifts)
 
 pub returns-in_ok-greatest-in-None : goal.returns-in_ok-greatest-in-None
 returns-in_ok-greatest-in-None g c =
@@ -42,7 +42,7 @@ returns-in_ok-greatest-in-None g c =
     let shift = c.args.shift.now in
     let ts = meanings t.places t.value_of c.args.terms.now in
     let reading = c.args.reading.now in
-    let graph = reading.graph in
+    let graph = reading.graph.now in
     let h = c.requires.reading in
     let prove : Prove ts n q shift graph.bases = proves h.whole m.family m.submodular h.count h.is_rest h.signed (simp to_z-of_z at (match_none c.in_ok-joins.joins _ _ c.in_ok-joins.ensures (λ x e. cc))) in
     let least_is = least h.whole m.family m.submodular h.count h.is_rest h.signed prove reading.reached c.in_ok-least-in-None.least c.in_ok-least-in-None.ensures h.reached_are in

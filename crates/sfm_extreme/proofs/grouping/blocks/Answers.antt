@@ -14,26 +14,23 @@ reads : (g : given.Over) (c : In_ok-reading g) → let t = g.T.Term in
 reads g c =
     let n = c.args.n in
     let same : c.deref.result.now ≡ replicate n (pos 0) = search rules in
-    rw (same, length-replicate n (pos 0)) at c.in_ok-reading.ensures.reading
+    (rw (same, length-replicate n (pos 0)) at c.in_ok-reading.ensures.reading) (pos 1) c.in_ok-graph.ensures.graph
 
-pub read_at-requires-clause-bounded : goal.read_at-requires-clause-bounded
-read_at-requires-clause-bounded g c =
+pub read_graph-requires-clause-whole : goal.read_graph-requires-clause-whole
+read_graph-requires-clause-whole g c =
     let same : c.deref.result.now ≡ replicate c.args.n (pos 0) = search rules in
-    rw (same, length-replicate c.args.n (pos 0)) c.requires.bounded
+    (pos 1, rw (same, length-replicate c.args.n (pos 0)) c.in_ok-graph.ensures.graph)
 
-pub read_at-requires-clause-shifts : goal.read_at-requires-clause-shifts
-read_at-requires-clause-shifts g c =
+pub read_graph-requires-clause-shifts : goal.read_graph-requires-clause-shifts
+read_graph-requires-clause-shifts g c =
     let zero : IsEntry (pos 0) = record { low = omega (arith, ints); high = omega (arith, ints) } in
     even_small c.deref.result.now c.args.n (pos 0) zero c.requires.bounded.few (search rules)
 
-pub read_at-requires-clause-bases : goal.read_at-requires-clause-bases
-read_at-requires-clause-bases g c = c.requires.bases
-
-pub read_at-requires-clause-small : goal.read_at-requires-clause-small
-read_at-requires-clause-small g c = c.requires.small
+pub read_graph-requires-clause-small : goal.read_graph-requires-clause-small
+read_graph-requires-clause-small g c = rw c.in_ok-graph.ensures.bases c.requires.small
 
 pub blocks_read-requires-clause-reading : goal.blocks_read-requires-clause-reading
 blocks_read-requires-clause-reading g c = reads g (goal.at.blocks_read-requires-clause-reading g c).In_ok-reading
 
 pub blocks_read-requires-clause-prove : goal.blocks_read-requires-clause-prove
-blocks_read-requires-clause-prove g c = rw c.in_ok-reading.ensures.bases c.requires.prove
+blocks_read-requires-clause-prove g c = rw (c.in_ok-reading.ensures.graph, c.in_ok-graph.ensures.bases) c.requires.prove

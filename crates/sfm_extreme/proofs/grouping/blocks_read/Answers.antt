@@ -1,4 +1,4 @@
-use Rattle.std.proofs.Common.{◌≡◌, map, replicate, pos, ◌≤ℤ◌, rules, arith}
+use Rattle.std.proofs.Common.{map, replicate, pos, ◌≤ℤ◌, arith}
 use Rattle.std.proofs.lemmas.Int.{ints}
 use Rattle.std.proofs.lemmas.Result.{IfOk-weaker}
 use Rattle.sfm_spec.specs.Blocks.{AreBlocks, Generate}
@@ -34,7 +34,7 @@ returns-clause-exact g c =
     let ts = meanings t.places t.value_of c.args._terms.now in
     let reading = c.args.reading.now in
     let h = c.requires.reading in
-    IfOk-weaker c.blocks_by.result _ (λ r. AreBlocks ts n (pos 1) shift (map block_of r.items)) (λ r (k : AreBlocksBy reading.graph.unions.items c.union_with.new.self (map block_of r.items)).
+    IfOk-weaker c.blocks_by.result _ (λ r. AreBlocks ts n (pos 1) shift (map block_of r.items)) (λ r (k : AreBlocksBy reading.graph.now.unions.items c.union_with.new.self (map block_of r.items)).
     let told = tells h m.family m.submodular c.requires.prove c.union_with.new.self c.union_with.ensures k.rows k.pulls in
     blocks_are ts n (pos 1) shift _ k.rows told k.firsts k.are_firsts (map block_of r.items) k.grouped) (rw c.deref.ensures.value at c.blocks_by.ensures)
 

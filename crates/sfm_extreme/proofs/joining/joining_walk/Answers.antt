@@ -30,7 +30,7 @@ pub follow-requires-clause-spots : goal.follow-requires-clause-spots
 follow-requires-clause-spots g c =
     let t = g.T.Term in
     let h = c.requires.whole in
-    let S : ℕ → Type 0 = λ k. AreSpots (meanings t.places t.value_of c.args.terms.now) k c.args.reading.now.graph.spots.items in
+    let S : ℕ → Type 0 = λ k. AreSpots (meanings t.places t.value_of c.args.terms.now) k c.args.reading.now.graph.now.spots.items in
     subst S (sym (unions_count h)) h.exact.are_spots
 
 pub follow-requires-clause-rows : goal.follow-requires-clause-rows
@@ -44,7 +44,7 @@ follow-requires-clause-placed g c =
     let t = g.T.Term in
     let m = g.met.T.Term in
     let h = c.requires.whole in
-    let graph = c.args.reading.now.graph in
+    let graph = c.args.reading.now.graph.now in
     let ts = meanings t.places t.value_of c.args.terms.now in
     let each : (i : ℕ) → i < length c.args.terms.now → IsReadable ts graph.rows.items i = λ i l.
     tables_readable ts graph.bases (length c.args._shift.now) c.args._q (low h) (are_terms h m.family m.submodular) h.exact.are_bases h.bounded.few graph.rows.items i (rw (counted h) l) (h.exact.tables i l) in
@@ -53,7 +53,7 @@ follow-requires-clause-placed g c =
 pub follow-requires-clause-first : goal.follow-requires-clause-first
 follow-requires-clause-first g c =
     let h = c.requires in
-    let graph = c.args.reading.now.graph in
+    let graph = c.args.reading.now.graph.now in
     let z = c.args.reading.now.z.items in
     let F : ℕ → Type 0 = λ k. IsFirst k graph.unions.items z c.find_levels.new.levels.items c.in-Some.first in
     let begin = rw (c.deref-2.ensures.value, c.deref-3.ensures.value) at (match_some c.in_ok-found.found c.in-Some.first _ _ c.in_ok-found.ensures c.in-Some.is) in
@@ -64,7 +64,7 @@ returns-in-Some g c =
     let t = g.T.Term in
     let m = g.met.T.Term in
     let h = c.requires in
-    let graph = c.args.reading.now.graph in
+    let graph = c.args.reading.now.graph.now in
     let z = c.args.reading.now.z.items in
     let n = length c.args._shift.now in
     let ts = meanings t.places t.value_of c.args.terms.now in
@@ -85,7 +85,7 @@ pub returns : goal.returns
 returns g c =
     let m = g.met.T.Term in
     let h = c.requires in
-    let graph = c.args.reading.now.graph in
+    let graph = c.args.reading.now.graph.now in
     let z = c.args.reading.now.z.items in
     let n = length c.args._shift.now in
     let levels = c.find_levels.new.levels.items in

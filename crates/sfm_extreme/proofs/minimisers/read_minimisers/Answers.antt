@@ -1,44 +1,19 @@
-use Rattle.std.proofs.Common.{◌≡◌, replicate, pos, rules, arith}
-use Rattle.std.proofs.lemmas.Int.{ints}
-use Rattle.std.proofs.lemmas.List.{length-replicate}
-use Rattle.sfm_spec.specs.Bounds.{IsEntry}
-use Rattle.sfm_extreme.specs.Reading.{IsReading}
-use Rattle.sfm_extreme.proofs.Deficits.{even_small}
-use Rattle.sfm_extreme.proofs.minimisers.read_minimisers.Given as given
+use Rattle.std.proofs.Common.{pos, subst}
+use Rattle.std.proofs.lemmas.Result.{IfOk-weaker}
+use Rattle.sfm_spec.specs.Families.{meanings, even_shift}
+use Rattle.sfm_extreme.specs.Certified.{IsAnswer}
+use Rattle.sfm_extreme.specs.declared.extremes.Certified.TheVariants.{Proved}
 use Rattle.sfm_extreme.proofs.minimisers.read_minimisers.Goals as goal
-use Rattle.sfm_extreme.proofs.minimisers.read_minimisers.Goals.{In_ok-reading}
 
--- what was read off the bases, with no shift
-reads : (g : given.Over) (c : In_ok-reading g) → let t = g.T.Term in
-    IsReading t c.args.terms.now c.args.n (pos 1) (replicate c.args.n (pos 0)) c.in_ok-reading.reading
-reads g c =
-    let n = c.args.n in
-    let same : c.deref.result.now ≡ replicate n (pos 0) = search rules in
-    rw (same, length-replicate n (pos 0)) at c.in_ok-reading.ensures.reading
+pub minimisers_at-requires-clause-small : goal.minimisers_at-requires-clause-small
+minimisers_at-requires-clause-small g c = rw c.in_ok-graph.ensures.bases c.requires.small
 
-pub read_at-requires-clause-bounded : goal.read_at-requires-clause-bounded
-read_at-requires-clause-bounded g c =
-    let same : c.deref.result.now ≡ replicate c.args.n (pos 0) = search rules in
-    rw (same, length-replicate c.args.n (pos 0)) c.requires.bounded
+pub minimisers_at-requires-clause-prove : goal.minimisers_at-requires-clause-prove
+minimisers_at-requires-clause-prove g c = rw c.in_ok-graph.ensures.bases c.requires.prove
 
-pub read_at-requires-clause-shifts : goal.read_at-requires-clause-shifts
-read_at-requires-clause-shifts g c =
-    let zero : IsEntry (pos 0) = record { low = omega (arith, ints); high = omega (arith, ints) } in
-    even_small c.deref.result.now c.args.n (pos 0) zero c.requires.bounded.few (search rules)
-
-pub read_at-requires-clause-bases : goal.read_at-requires-clause-bases
-read_at-requires-clause-bases g c = c.requires.bases
-
-pub read_at-requires-clause-small : goal.read_at-requires-clause-small
-read_at-requires-clause-small g c = c.requires.small
-
-pub blocks_read-requires-clause-reading : goal.blocks_read-requires-clause-reading
-blocks_read-requires-clause-reading g c = reads g (goal.at.blocks_read-requires-clause-reading g c).In_ok-reading
-
-pub blocks_read-requires-clause-prove : goal.blocks_read-requires-clause-prove
-blocks_read-requires-clause-prove g c = rw c.in_ok-reading.ensures.bases c.requires.prove
-
-pub told_by-requires-clause-shifts : goal.told_by-requires-clause-shifts
-told_by-requires-clause-shifts g c =
-    let zero : IsEntry (pos 0) = record { low = omega (arith, ints); high = omega (arith, ints) } in
-    even_small c.deref-2.result.now c.args.n (pos 0) zero c.requires.bounded.few (search rules)
+pub returns-clause-answer : goal.returns-clause-answer
+returns-clause-answer g c =
+    let t = g.T.Term in
+    IfOk-weaker c.minimisers_at.result _ _
+    (λ r h. subst (λ b. IsAnswer (meanings t.places t.value_of c.args.terms.now) c.args.n (pos 1) (even_shift c.args.n (pos 0)) b (Proved r.proved)) c.in_ok-graph.ensures.bases h)
+    c.minimisers_at.ensures.answer
