@@ -2,9 +2,9 @@
 // Of the parts of one count those with the greatest entries leave least; and of these, only those that have all the entries above
 // some entry need to be tried: with u put in and v taken out for the room of (u, v). For a row the parts of the greatest entries
 // are tried from u's own entry on, one size after another: the first that leaves nothing tells the row.
-ghost use Rattle.std.specs.{Prelude.{◌≡◌, ◌≢◌, ◌↔◌, ℕ, ◌+◌, ◌-◌, ◌<◌, ◌≤◌, ◌^◌, Bool, true, false, List, length, slice_index_or, slice_set, ℤ, pos, neg_ℤ, ◌*ℤ◌, ◌+ℤ◌, ◌-ℤ◌, ◌≤ℤ◌, ◌<ℤ◌, IfOk, IfSome, MatchOption, OnOk, IsTrue, Option, Some, Ok, Err}, Int.{int_min}, List.{All}};
-ghost use Rattle.sfm_spec.specs.{Bounds.{IsAtMost, IsEntry, IsFactor, IsGiven, AreElements}, Sets.{Has, whole_set}, Terms.{SetFunction, times, IsBase, IsFamily, IsSubmodular, IsGreedy, exchanged}, Kinds.{concave_value}};
-ghost use Rattle.sfm_law.specs.{Based.{IsPair}, Room.{IsRoom, IsReach}, Values.{greatest}};
+ghost use Rattle.std.specs.{Prelude.{◌≡◌, ◌↔◌, ℕ, ◌<◌, ◌≤◌, ◌^◌, Bool, false, List, length, slice_set, pos, IfOk, IfSome, MatchOption, OnOk, IsTrue, Err}, Int.{int_min}, List.{All}};
+ghost use Rattle.sfm_spec.specs.{Bounds.{IsAtMost, IsEntry, IsFactor, IsGiven, AreElements}, Sets.{whole_set}, Terms.{times, IsBase, IsGreedy}, Kinds.{concave_value}};
+ghost use Rattle.sfm_law.specs.{Based.{IsPair}, Values.{greatest}};
 ghost use Rattle.sfm_concave.specs.{Rankings.{IsRanking}, Thresholds.{above, slack, IsShareOf, IsSomeShare, slack_from, IsLeastSlack, IsBar, IsLastTight, NoneTight, LeavesAbove}, ConcaveLaws.{number_of, scaled, IsFirstRise, NeverRises, gain_of, concave_start, concave-family, concave-submodular, concave-bounded, concave-starts, concave-starts_small, concave-starts_times}};
 
 use crate::ranking::{FEW, Ranking, RankingArrays, RankingView, count_upto, count_upto_place};
@@ -12,7 +12,7 @@ use crate::rise::first_rise;
 use crate::share::{Share, share_above, share_between, share_beyond, share_from, share_without};
 use sfm_base::{Memory, Numbers, Places, Set};
 use sfm_law::{
-    At, Lead, Room, Swap, Term, greatest_magnitude, has_sum, product, put_others_over, write_each,
+    At, Plain, Room, Swap, greatest_magnitude, has_sum, product, put_others_over, write_each,
 };
 use std::alloc::Global;
 
@@ -116,14 +116,6 @@ impl Concave {
         product(q, self.number(count))
     }
 
-    /// The value of a part: every part is allowed.
-    pub fn value_of(&self, s: &Set) -> Option<i128>
-        requires { length s.now ≡ length self.now.places }
-        ensures { result ≡ concave_value self.now.values s.now }
-    {
-        Some(self.number(s.size()))
-    }
-
     /// What the place j adds to those before it, q times.
     fn gain(&self, q: i128, j: usize) -> i128
         requires factor { IsFactor q }
@@ -131,16 +123,6 @@ impl Concave {
         ensures { result ≡ gain_of q self.now.values j }
     {
         self.scaled(q, j + 1) - self.scaled(q, j)
-    }
-
-    /// Writes what each place adds to those before it: the greedy base.
-    pub fn start_of(&self, q: i128, x: &mut [i128])
-        requires factor { IsFactor q }
-        requires entries { length x.old ≡ length self.now.places }
-        ensures start { x.new ≡ concave_start q self.now.values (length self.now.places) }
-        ensures greedy { IsGreedy q (concave_value self.now.values) (length self.now.places) x.new }
-    {
-        write_each(x, |j| self.gain(q, j));
     }
 
     /// What a part with a share leaves of q times its value.
@@ -230,16 +212,6 @@ impl Concave {
         true
     }
 
-    /// Whether x is a base of q times the term.
-    pub fn is_base_of(&self, q: i128, x: &[i128]) -> bool
-        requires factor { IsFactor q }
-        requires entries { length x.now ≡ length self.now.places }
-        requires small { All IsEntry x.now }
-        ensures { IsTrue result ↔ IsBase (times q (concave_value self.now.values)) x.now }
-    {
-        has_sum(x, self.scaled(q, x.len())) && self.is_within(q, x)
-    }
-
     /// The least slack of a part with u and not v, by the ranking that is kept if there is one.
     fn least_slack(&self, at: &At<'_>, note: Option<&Ranking>, u: usize, v: usize) -> i128
         requires factor { IsFactor at.now.q }
@@ -305,35 +277,6 @@ impl Concave {
             least = self.lesser_slack(at, share, least);
         }
         least
-    }
-
-    /// The room of (u, v) at a base, by the ranking that is kept beside it if there is one: the least slack of a part with u
-    /// and not v.
-    fn room_noted(&self, at: &At<'_>, note: Option<&Ranking>, u: usize, v: usize) -> Room
-        requires factor { IsFactor at.now.q }
-        requires entries { length at.now.x.now ≡ length self.now.places }
-        requires small { All IsEntry at.now.x.now }
-        requires base { IsBase (times at.now.q (concave_value self.now.values)) at.now.x.now }
-        requires noted { IfSome note (λ n. IsRanking at.now.x.now n.now.sorted.items
-            n.now.sums.items) }
-        requires pair { IsPair u v at.now.x.now }
-        ensures { IsRoom (times at.now.q (concave_value self.now.values)) at.now.x.now u v result }
-    {
-        Room::Upto(self.least_slack(at, note, u, v))
-    }
-
-    /// The room of (u, v) at a base: the least slack of a part with u and not v.
-    pub fn room_of(&self, q: i128, x: &[i128], u: usize, v: usize) -> Room
-        requires factor { IsFactor q }
-        requires entries { length x.now ≡ length self.now.places }
-        requires small { All IsEntry x.now }
-        requires base { IsBase (times q (concave_value self.now.values)) x.now }
-        requires apart { u ≢ v }
-        requires from { u < length x.now }
-        requires onto { v < length x.now }
-        ensures { IsRoom (times q (concave_value self.now.values)) x.now u v result }
-    {
-        self.room_noted(&At { q, x }, None, u, v)
     }
 
     /// What all places but the i least leave.
@@ -429,39 +372,9 @@ impl Concave {
             None => self.bar_made(at, u),
         }
     }
-
-    /// Writes the places other than u to which u has room at a base, by the ranking that is kept beside it if there is one:
-    /// those above the greatest entry to which it has none.
-    fn reach_noted(&self, at: &At<'_>, note: Option<&Ranking>, u: usize, to: &mut Set)
-        requires factor { IsFactor at.now.q }
-        requires entries { length at.now.x.now ≡ length self.now.places }
-        requires small { All IsEntry at.now.x.now }
-        requires base { IsBase (times at.now.q (concave_value self.now.values)) at.now.x.now }
-        requires noted { IfSome note (λ n. IsRanking at.now.x.now n.now.sorted.items
-            n.now.sums.items) }
-        requires from { u < length at.now.x.now }
-        requires room_for_answer { length to.old ≡ length at.now.x.now }
-        ensures { IsReach (times at.now.q (concave_value self.now.values)) at.now.x.now u to.new }
-    {
-        put_others_over(at.x, u, self.bar(at, note, u), to);
-    }
-
-    /// Writes the places other than u to which u has room at a base: those above the greatest entry to which it has none.
-    pub fn reach_of(&self, q: i128, x: &[i128], u: usize, to: &mut Set)
-        requires factor { IsFactor q }
-        requires entries { length x.now ≡ length self.now.places }
-        requires small { All IsEntry x.now }
-        requires base { IsBase (times q (concave_value self.now.values)) x.now }
-        requires from { u < length x.now }
-        requires room_for_answer { length to.old ≡ length x.now }
-        ensures places { length to.new ≡ length to.old }
-        ensures reached { IsReach (times q (concave_value self.now.values)) x.now u to.new }
-    {
-        self.reach_noted(&At { q, x }, None, u, to);
-    }
 }
 
-impl Term for Concave {
+impl Plain for Concave {
     type Note = Ranking;
 
     ghost places = { λ s. s.places };
@@ -471,10 +384,6 @@ impl Term for Concave {
     ghost size_of = { λ s. greatest s.values };
 
     ghost start_of = { λ s q. concave_start q s.values (length s.places) };
-
-    ghost lean_value = { λ s. Unit {0} };
-
-    ghost lean_calls = { λ s. Unit {0} };
 
     ghost fits = { λ s note q x. IsRanking x note.sorted.items note.sums.items };
 
@@ -490,71 +399,51 @@ impl Term for Concave {
 
     ghost starts_times = { λ s q. concave-starts_times (length s.places) q s.values };
 
-    fn elements(&self) -> &[usize] {
+    fn elements_of(&self) -> &[usize] {
         self.places.as_slice()
     }
 
-    fn size(&self) -> i128 {
+    fn size_of(&self) -> i128 {
         self.most
     }
 
-    fn value(&self, _alloc: Global, s: &Set) -> Result<Option<i128>, Memory> {
-        Ok(self.value_of(s))
+    /// The value of a part: every part is allowed.
+    fn value_of(&self, _alloc: Global, s: &Set) -> Result<Option<i128>, Memory> {
+        Ok(Some(self.number(s.size())))
     }
 
-    fn start(&self, _alloc: Global, q: i128, x: &mut [i128]) -> Result<(), Memory> {
-        self.start_of(q, x);
-        Ok(())
+    /// Writes what each place adds to those before it: the greedy base.
+    fn start_of(&self, q: i128, x: &mut [i128])
+        requires factor { IsFactor q }
+        requires entries { length x.old ≡ length self.now.places }
+        ensures start { x.new ≡ concave_start q self.now.values (length self.now.places) }
+        ensures greedy { IsGreedy q (concave_value self.now.values) (length self.now.places) x.new }
+    {
+        write_each(x, |j| self.gain(q, j));
     }
 
-    fn is_base(&self, _alloc: Global, q: i128, x: &[i128]) -> Result<bool, Memory> {
-        Ok(self.is_base_of(q, x))
+    /// Whether x is a base of q times the term.
+    fn is_base_of(&self, q: i128, x: &[i128]) -> bool {
+        has_sum(x, self.scaled(q, x.len())) && self.is_within(q, x)
     }
 
-    fn room(&self, _alloc: Global, at: &At<'_>, u: usize, v: usize) -> Result<Room, Memory> {
-        Ok(self.room_noted(at, None, u, v))
+    /// The room of (u, v) at a base, by the ranking that is kept beside it if there is one: the least slack of a part with u
+    /// and not v.
+    fn room_of(&self, at: &At<'_>, note: Option<&Ranking>, u: usize, v: usize) -> Room {
+        Room::Upto(self.least_slack(at, note, u, v))
     }
 
-    fn reach(&self, _alloc: Global, at: &At<'_>, u: usize, to: &mut Set) -> Result<(), Memory> {
-        self.reach_noted(at, None, u, to);
-        Ok(())
+    /// Writes the places other than u to which u has room at a base, by the ranking that is kept beside it if there is one:
+    /// those above the greatest entry to which it has none.
+    fn reach_of(&self, at: &At<'_>, note: Option<&Ranking>, u: usize, to: &mut Set) {
+        put_others_over(at.x, u, self.bar(at, note, u), to);
     }
 
-    fn note(&self, alloc: Global, at: &At<'_>) -> Result<Ranking, Memory> {
+    fn note_of(&self, alloc: Global, at: &At<'_>) -> Result<Ranking, Memory> {
         Ranking::new(alloc, at.x)
     }
 
-    fn reach_by(
-        &self,
-        _alloc: Global,
-        at: &At<'_>,
-        note: &mut Ranking,
-        lead: &Lead,
-        to: &mut Set,
-    ) -> Result<(), Memory> {
-        self.reach_noted(at, Some(note), lead.from, to);
-        Ok(())
-    }
-
-    fn room_by(
-        &self,
-        _alloc: Global,
-        at: &At<'_>,
-        note: &mut Ranking,
-        u: usize,
-        v: usize,
-    ) -> Result<Room, Memory> {
-        Ok(self.room_noted(at, Some(note), u, v))
-    }
-
-    fn moved(
-        &self,
-        _alloc: Global,
-        at: &At<'_>,
-        note: &mut Ranking,
-        swap: &Swap,
-    ) -> Result<(), Memory> {
+    fn note_moved(&self, at: &At<'_>, note: &mut Ranking, swap: &Swap) {
         note.exchange(at.x, swap);
-        Ok(())
     }
 }

@@ -1,4 +1,4 @@
-// Each has its calls without an allocator.
+// Terms whose values are a concave function of the count of a part. What is asked of them at a base takes no memory.
 #![tactic(auto)]
 
 pub mod concave;

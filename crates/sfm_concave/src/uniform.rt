@@ -1,13 +1,15 @@
 // A number w times the count of a part, up to a cap: the weighted rank of a uniform matroid, which is a concave function of
 // the count. The bases of q times it are the vectors with entries from 0 to q·w that have q times the whole value in all:
 // so the room of (u, v) is what v has, or what u lacks of q·w where that is less.
-ghost use Rattle.std.specs.{Prelude.{◌≡◌, ◌≢◌, ◌↔◌, ℕ, ◌<◌, ◌≤◌, ◌^◌, length, ℤ, pos, ◌*ℤ◌, ◌≤ℤ◌, IfOk, IsTrue, Option, Some}, List.{All}};
-ghost use Rattle.sfm_spec.specs.{Bounds.{IsAtMost, IsEntry, IsFactor, IsGiven, AreElements, total_of}, Sets.{Has}, Terms.{times, IsGreedy}, Kinds.{uniform_value}};
+ghost use Rattle.std.specs.{Prelude.{◌≡◌, ◌↔◌, ℕ, ◌≤◌, ◌^◌, length, pos, ◌*ℤ◌, ◌≤ℤ◌, IfOk, IsTrue}, List.{All}};
+ghost use Rattle.sfm_spec.specs.{Bounds.{IsAtMost, IsEntry, IsFactor, IsGiven, AreElements, total_of}, Sets.{Has}, Terms.{IsGreedy}, Kinds.{uniform_value}};
 ghost use Rattle.sfm_layers.specs.Kept.{kept};
-ghost use Rattle.sfm_concave.specs.UniformLaws.{rank_of, IsUniformRoom, uniform_size, uniform_gain, uniform_start, uniform-family, uniform-submodular, uniform-bounded, uniform-starts, uniform-starts_small, uniform-starts_times};
+ghost use Rattle.sfm_concave.specs.UniformLaws.{rank_of, uniform_size, uniform_gain, uniform_start, uniform-family, uniform-submodular, uniform-bounded, uniform-starts, uniform-starts_small, uniform-starts_times};
 
 use sfm_base::{Memory, Places, Set};
-use sfm_law::{Plain, Room, are_within, has_sum, least_left, product, put_others_over, write_each};
+use sfm_law::{
+    At, Plain, Room, Swap, are_within, has_sum, least_left, product, put_others_over, write_each,
+};
 use sfm_layers::kept_of;
 use std::alloc::Global;
 
@@ -126,6 +128,8 @@ impl Uniform {
 }
 
 impl Plain for Uniform {
+    type Note = ();
+
     ghost places = { λ s. s.places };
 
     ghost value_of = { λ s. uniform_value s.w s.cap };
@@ -155,8 +159,8 @@ impl Plain for Uniform {
     }
 
     /// The value of a part: every part is allowed.
-    fn value_of(&self, s: &Set) -> Option<i128> {
-        Some(self.ranked(s.size()))
+    fn value_of(&self, _alloc: Global, s: &Set) -> Result<Option<i128>, Memory> {
+        Ok(Some(self.ranked(s.size())))
     }
 
     /// Writes the base with q·w at each of the first places, up to `cap` of them.
@@ -176,17 +180,23 @@ impl Plain for Uniform {
     }
 
     /// The room of (u, v) at a base: what v has, or what u lacks of q·w where that is less.
-    fn room_of(&self, q: i128, x: &[i128], u: usize, v: usize) -> Room {
-        Room::Upto(least_left(x, u, v, self.most(q)))
+    fn room_of(&self, at: &At<'_>, _note: Option<&()>, u: usize, v: usize) -> Room {
+        Room::Upto(least_left(at.x, u, v, self.most(at.q)))
     }
 
     /// Writes the places other than u to which u has room at a base: those that have something, where u lacks something of
     /// q·w.
-    fn reach_of(&self, q: i128, x: &[i128], u: usize, to: &mut Set) {
-        if x[u] >= self.most(q) {
+    fn reach_of(&self, at: &At<'_>, _note: Option<&()>, u: usize, to: &mut Set) {
+        if at.x[u] >= self.most(at.q) {
             to.clear();
             return;
         }
-        put_others_over(x, u, Some(0), to);
+        put_others_over(at.x, u, Some(0), to);
     }
+
+    fn note_of(&self, _alloc: Global, _at: &At<'_>) -> Result<(), Memory> {
+        Ok(())
+    }
+
+    fn note_moved(&self, _at: &At<'_>, _note: &mut (), _swap: &Swap) {}
 }

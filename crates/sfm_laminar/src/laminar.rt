@@ -3,10 +3,9 @@
 // or its size where that is less, and that have q times the whole value in all. So the room of (u, v) is the least of what
 // v has, what u lacks of q·w, and what each group lacks that has u and not v. What each group lacks is kept beside a base, as the
 // places that have something are: a row is then made word by word, and a room is the least of a few numbers.
-ghost use Rattle.std.specs.{Prelude.{◌≡◌, ◌≢◌, ◌↔◌, ℕ, ◌<◌, ◌≤◌, ◌^◌, Bool, true, false, List, length, slice_index_or, ℤ, pos, neg_ℤ, ◌*ℤ◌, ◌+ℤ◌, ◌-ℤ◌, ◌≤ℤ◌, ◌<ℤ◌, IfOk, IfSome, OnOk, IsTrue, Option, Some, Ok, Err, Contains}, List.{All}};
-ghost use Rattle.sfm_spec.specs.{Bounds.{IsAtMost, IsEntry, IsFactor, IsGiven, AreElements, total_of}, Sets.{Has, size}, Terms.{SetFunction, times, IsBase, IsFamily, IsSubmodular, IsGreedy, exchanged}, Kinds.{IsWithinCaps, IsRank, IsRankFunction}};
-ghost use Rattle.sfm_law.specs.{Based.{IsPair}, Room.{IsRoom, IsReach}};
-ghost use Rattle.sfm_laminar.specs.{Groups.{IsGroup, IsBelow, AreGroups, NoneCross, IsFirstCrossing}, Crossing.{group_at}, Ranks.{rank}, Indexes.{IsIndex, AreHoldersOf, AreMasks}, Masks.{mask}, Slacks.{AreSlacks, IsSupport, laminar_fits, share_of}, Rooms.{slack_of, IsLeast, IsKept, IsHeld, IsHeldAt}, LaminarLaws.{laminar_value, laminar_size, laminar_start, basis_of, laminar-family, laminar-submodular, laminar-bounded, laminar-starts, laminar-starts_small, laminar-starts_times}};
+ghost use Rattle.std.specs.{Prelude.{◌≡◌, ◌↔◌, ℕ, ◌<◌, ◌≤◌, ◌^◌, false, length, slice_index_or, pos, ◌*ℤ◌, ◌+ℤ◌, ◌-ℤ◌, ◌≤ℤ◌, ◌<ℤ◌, IfOk, IfSome, OnOk, IsTrue, Err, Contains}, List.{All}};
+ghost use Rattle.sfm_spec.specs.{Bounds.{IsAtMost, IsEntry, IsFactor, IsGiven, AreElements, total_of}, Terms.{IsGreedy}, Kinds.{IsWithinCaps, IsRank, IsRankFunction}};
+ghost use Rattle.sfm_laminar.specs.{Groups.{IsGroup, IsBelow, AreGroups, NoneCross, IsFirstCrossing}, Crossing.{group_at}, Ranks.{rank}, Indexes.{IsIndex, AreHoldersOf, AreMasks}, Masks.{mask}, Slacks.{AreSlacks, laminar_fits, share_of}, Rooms.{slack_of, IsLeast, IsKept, IsHeld, IsHeldAt}, LaminarLaws.{laminar_value, laminar_size, laminar_start, basis_of, laminar-family, laminar-submodular, laminar-bounded, laminar-starts, laminar-starts_small, laminar-starts_times}};
 
 use crate::crossing::first_crossing;
 use crate::groups::{CappedGroup, Groups};
@@ -16,7 +15,7 @@ use crate::masks::Masks;
 use crate::number::{bound, sum_listed};
 use crate::slacks::{Slacks, move_support, put_some, share, support_of};
 use sfm_base::{Memory, Places, Set};
-use sfm_law::{At, Lead, Room, Swap, Term, are_within, has_sum, least_left, product, write_each};
+use sfm_law::{At, Plain, Room, Swap, are_within, has_sum, least_left, product, write_each};
 use std::alloc::Global;
 
 /// Why groups make no laminar matroid.
@@ -196,18 +195,6 @@ impl Laminar {
         self.ranked(self.basis.size() as i128)
     }
 
-    /// Writes the base with q·w at each element of the base of the matroid that is kept.
-    pub fn start_of(&self, q: i128, x: &mut [i128])
-        requires factor { IsFactor q }
-        requires entries { length x.old ≡ length self.now.places }
-        ensures start { x.new ≡ laminar_start (length self.now.places) q self.now.w
-            self.now.groups }
-        ensures greedy { IsGreedy q (laminar_value (length self.now.places) self.now.w
-            self.now.groups) (length self.now.places) x.new }
-    {
-        write_each(x, |j| self.share(q, j));
-    }
-
     /// What the place j gets of the first base.
     fn share(&self, q: i128, j: usize) -> i128
         requires factor { IsFactor q }
@@ -288,23 +275,6 @@ impl Laminar {
         has_sum(x, product(q, self.most()))
     }
 
-    /// Whether x is a base of q times the term.
-    pub fn is_base_of(&self, q: i128, x: &[i128]) -> bool
-        requires factor { IsFactor q }
-        requires entries { length x.now ≡ length self.now.places }
-        requires small { All IsEntry x.now }
-        ensures { IsTrue result ↔ IsBase (times q (laminar_value
-            (length self.now.places) self.now.w self.now.groups)) x.now }
-    {
-        if !self.are_capped(q, x) {
-            return false;
-        }
-        if !self.has_whole(q, x) {
-            return false;
-        }
-        self.are_bounded(q, x)
-    }
-
     /// What the group i lacks, by what is kept if there is something.
     fn slack_by(&self, at: &At<'_>, note: Option<&Slacks>, i: usize) -> i128
         requires factor { IsFactor at.now.q }
@@ -381,40 +351,6 @@ impl Laminar {
         least
     }
 
-    /// The room of (u, v) at a base, by what is kept beside it if there is something: the least of what v has, what u lacks
-    /// of q·w, and what each group lacks that has u and not v.
-    fn room_noted(&self, at: &At<'_>, note: Option<&Slacks>, u: usize, v: usize) -> Room
-        requires factor { IsFactor at.now.q }
-        requires entries { length at.now.x.now ≡ length self.now.places }
-        requires small { All IsEntry at.now.x.now }
-        requires base { IsBase (times at.now.q (laminar_value (length self.now.places) self.now.w
-            self.now.groups)) at.now.x.now }
-        requires noted { IfSome note (λ n. laminar_fits self.now.w self.now.groups n.now at.now.q
-            at.now.x.now) }
-        requires pair { IsPair u v at.now.x.now }
-        ensures { IsRoom (times at.now.q (laminar_value (length self.now.places) self.now.w
-            self.now.groups)) at.now.x.now u v result }
-    {
-        Room::Upto(self.least_left(at, note, u, v))
-    }
-
-    /// The room of (u, v) at a base: the least of what v has, what u lacks of q·w, and what each group lacks that has u and
-    /// not v.
-    pub fn room_of(&self, q: i128, x: &[i128], u: usize, v: usize) -> Room
-        requires factor { IsFactor q }
-        requires entries { length x.now ≡ length self.now.places }
-        requires small { All IsEntry x.now }
-        requires base { IsBase (times q (laminar_value (length self.now.places) self.now.w
-            self.now.groups)) x.now }
-        requires apart { u ≢ v }
-        requires from { u < length x.now }
-        requires onto { v < length x.now }
-        ensures { IsRoom (times q (laminar_value (length self.now.places) self.now.w
-            self.now.groups)) x.now u v result }
-    {
-        self.room_noted(&At { q, x }, None, u, v)
-    }
-
     /// Whether the group i lacks nothing.
     fn is_full(&self, at: &At<'_>, note: Option<&Slacks>, i: usize) -> bool
         requires factor { IsFactor at.now.q }
@@ -474,47 +410,6 @@ impl Laminar {
             ↔ (slice_index_or at.now.x.now u (pos 0) <ℤ (at.now.q *ℤ self.now.w)) }
     {
         at.x[u] < self.place_most(at.q)
-    }
-
-    /// Writes the places other than u to which u has room at a base, by what is kept beside it if there is something: those
-    /// that have something and are in each group that has u and lacks nothing, where u lacks something of q·w.
-    fn reach_noted(&self, at: &At<'_>, note: Option<&Slacks>, u: usize, to: &mut Set)
-        requires factor { IsFactor at.now.q }
-        requires entries { length at.now.x.now ≡ length self.now.places }
-        requires small { All IsEntry at.now.x.now }
-        requires base { IsBase (times at.now.q (laminar_value (length self.now.places) self.now.w
-            self.now.groups)) at.now.x.now }
-        requires noted { IfSome note (λ n. laminar_fits self.now.w self.now.groups n.now at.now.q
-            at.now.x.now) }
-        requires from { u < length at.now.x.now }
-        requires sized { length to.old ≡ length at.now.x.now }
-        ensures { IsReach (times at.now.q (laminar_value (length self.now.places) self.now.w
-            self.now.groups)) at.now.x.now u to.new }
-    {
-        if !self.lacks(at, u) {
-            to.clear();
-            return;
-        }
-        put_some(at.x, note, to);
-        to.remove(u);
-        self.keep_full(at, note, u, to);
-    }
-
-    /// Writes the places other than u to which u has room at a base: those that have something and are in each group that
-    /// has u and lacks nothing, where u lacks something of q·w.
-    pub fn reach_of(&self, q: i128, x: &[i128], u: usize, to: &mut Set)
-        requires factor { IsFactor q }
-        requires entries { length x.now ≡ length self.now.places }
-        requires small { All IsEntry x.now }
-        requires base { IsBase (times q (laminar_value (length self.now.places) self.now.w
-            self.now.groups)) x.now }
-        requires from { u < length x.now }
-        requires room_for_answer { length to.old ≡ length x.now }
-        ensures places { length to.new ≡ length to.old }
-        ensures reached { IsReach (times q (laminar_value (length self.now.places) self.now.w
-            self.now.groups)) x.now u to.new }
-    {
-        self.reach_noted(&At { q, x }, None, u, to);
     }
 
     /// What each group lacks.
@@ -580,7 +475,7 @@ impl Laminar {
     }
 }
 
-impl Term for Laminar {
+impl Plain for Laminar {
     type Note = Slacks;
 
     ghost places = { λ s. s.places };
@@ -592,8 +487,6 @@ impl Term for Laminar {
     ghost start_of = { λ s q. laminar_start (length s.places) q s.w s.groups };
 
     ghost lean_value = { λ s. ⊥ };
-
-    ghost lean_calls = { λ s. Unit {0} };
 
     ghost fits = { λ s note q x. laminar_fits s.w s.groups note q x };
 
@@ -612,79 +505,73 @@ impl Term for Laminar {
 
     ghost starts_times = { λ s q. laminar-starts_times (length s.places) q s.w s.groups };
 
-    fn elements(&self) -> &[usize] {
+    fn elements_of(&self) -> &[usize] {
         self.places.as_slice()
     }
 
-    fn asks_at_once(&self) -> bool {
+    fn has_cheap_rows(&self) -> bool {
         true
     }
 
-    fn size(&self) -> i128 {
+    fn size_of(&self) -> i128 {
         self.most()
     }
 
-    fn value(&self, alloc: Global, s: &Set) -> Result<Option<i128>, Memory> {
+    /// The value of a part: every part is allowed. Its rank is counted, which takes memory.
+    fn value_of(&self, alloc: Global, s: &Set) -> Result<Option<i128>, Memory> {
         let rank = self.rank(alloc, s)?;
         Ok(Some(self.ranked(rank)))
     }
 
-    fn start(&self, _alloc: Global, q: i128, x: &mut [i128]) -> Result<(), Memory> {
-        self.start_of(q, x);
-        Ok(())
+    /// Writes the base with q·w at each element of the base of the matroid that is kept.
+    fn start_of(&self, q: i128, x: &mut [i128])
+        requires factor { IsFactor q }
+        requires entries { length x.old ≡ length self.now.places }
+        ensures start { x.new ≡ laminar_start (length self.now.places) q self.now.w
+            self.now.groups }
+        ensures greedy { IsGreedy q (laminar_value (length self.now.places) self.now.w
+            self.now.groups) (length self.now.places) x.new }
+    {
+        write_each(x, |j| self.share(q, j));
     }
 
-    fn is_base(&self, _alloc: Global, q: i128, x: &[i128]) -> Result<bool, Memory> {
-        Ok(self.is_base_of(q, x))
+    /// Whether x is a base of q times the term.
+    fn is_base_of(&self, q: i128, x: &[i128]) -> bool {
+        if !self.are_capped(q, x) {
+            return false;
+        }
+        if !self.has_whole(q, x) {
+            return false;
+        }
+        self.are_bounded(q, x)
     }
 
-    fn room(&self, _alloc: Global, at: &At<'_>, u: usize, v: usize) -> Result<Room, Memory> {
-        Ok(self.room_noted(at, None, u, v))
+    /// The room of (u, v) at a base, by what is kept beside it if there is something: the least of what v has, what u lacks
+    /// of q·w, and what each group lacks that has u and not v.
+    fn room_of(&self, at: &At<'_>, note: Option<&Slacks>, u: usize, v: usize) -> Room {
+        Room::Upto(self.least_left(at, note, u, v))
     }
 
-    fn reach(&self, _alloc: Global, at: &At<'_>, u: usize, to: &mut Set) -> Result<(), Memory> {
-        self.reach_noted(at, None, u, to);
-        Ok(())
+    /// Writes the places other than u to which u has room at a base, by what is kept beside it if there is something: those
+    /// that have something and are in each group that has u and lacks nothing, where u lacks something of q·w.
+    fn reach_of(&self, at: &At<'_>, note: Option<&Slacks>, u: usize, to: &mut Set) {
+        if !self.lacks(at, u) {
+            to.clear();
+            return;
+        }
+        put_some(at.x, note, to);
+        to.remove(u);
+        self.keep_full(at, note, u, to);
     }
 
-    fn note(&self, alloc: Global, at: &At<'_>) -> Result<Slacks, Memory> {
+    fn note_of(&self, alloc: Global, at: &At<'_>) -> Result<Slacks, Memory> {
         let slacks = self.slacks_of(alloc, at)?;
         let support = support_of(alloc, at.x)?;
         Ok(Slacks { slacks, support })
     }
 
-    fn reach_by(
-        &self,
-        _alloc: Global,
-        at: &At<'_>,
-        note: &mut Slacks,
-        lead: &Lead,
-        to: &mut Set,
-    ) -> Result<(), Memory> {
-        self.reach_noted(at, Some(note), lead.from, to);
-        Ok(())
-    }
-
-    fn room_by(
-        &self,
-        _alloc: Global,
-        at: &At<'_>,
-        note: &mut Slacks,
-        u: usize,
-        v: usize,
-    ) -> Result<Room, Memory> {
-        Ok(self.room_noted(at, Some(note), u, v))
-    }
-
-    fn moved(
-        &self,
-        _alloc: Global,
-        at: &At<'_>,
-        note: &mut Slacks,
-        swap: &Swap,
-    ) -> Result<(), Memory> {
+    fn note_moved(&self, at: &At<'_>, note: &mut Slacks, swap: &Swap) {
         self.move_slacks(&mut note.slacks, swap);
         move_support(at.x, &mut note.support, swap);
-        Ok(())
     }
 }

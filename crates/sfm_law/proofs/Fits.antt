@@ -16,6 +16,9 @@ given_fits a h = omega (arith, ints)
 pub given_more : (a : ℤ) → IsGiven a → IsAtMost (10 ^ 21) a
 given_more a h = record { low = omega (arith, ints); high = omega (arith, ints) }
 
+pub factor_fits : (q : ℤ) → IsFactor q → FitsSigned w128 q
+factor_fits q h = omega (arith, ints)
+
 pub product_fits : (q a : ℤ) → IsFactor q → IsAtMost (10 ^ 21) a → FitsSigned w128 (q *ℤ a)
 product_fits q a f h = fits_signed_mul w128 q a (10 ^ 6) (10 ^ 21) (omega (arith, ints)) (omega (arith, ints)) (omega arith)
 

@@ -1,9 +1,10 @@
-// The plain terms: their calls take no memory, and they keep nothing beside a base. What such a term gives is said here once,
-// with no allocator and no note, and makes it a term: each call of a term passes on to the plain one, a note is nothing, and so
-// it fits each base.
-ghost use Rattle.std.specs.{Prelude.{◌≡◌, ◌≢◌, ◌↔◌, ℕ, ◌<◌, Bool, List, length, map, ℤ, pos, neg_ℤ, ◌*ℤ◌, ◌≤ℤ◌, IfOk, OnOk, IsTrue, Some}, List.{All}};
+// The plain terms: what is asked of them at a base takes no memory. A note that is kept beside the base tells it where there is
+// one, and else the base alone. So the calls with a note and those without one are one call here. What such a term gives is
+// said once, and makes it a term: each call of a term passes on to the plain one. An allocator is handed on only where a value
+// is found or a note is made. A term that keeps nothing has the note `()`, which fits each base.
+ghost use Rattle.std.specs.{Prelude.{◌≡◌, ◌≢◌, ◌↔◌, ℕ, ◌<◌, Bool, List, length, map, ℤ, pos, neg_ℤ, ◌*ℤ◌, ◌≤ℤ◌, IfOk, IfSome, IsOk, IsTrue, Some, None}, List.{All}};
 ghost use Rattle.sfm_spec.specs.{Bounds.{IsEntry, IsFactor}, Terms.{SetFunction, times, IsBase, IsFamily, IsSubmodular, exchanged}};
-ghost use Rattle.sfm_law.specs.Room.{IsRoom, IsReach, IsWithinRoom};
+ghost use Rattle.sfm_law.specs.{Based.{CanSwap}, Room.{IsRoom, IsReach}};
 
 use crate::at::{At, Lead, Swap};
 use crate::room::Room;
@@ -11,8 +12,11 @@ use crate::term::Term;
 use sfm_base::{Memory, Set};
 use std::alloc::Global;
 
-/// A term whose calls take no memory and keep nothing beside a base. What its members and calls mean is said at `Term`.
+/// A term that takes no memory but where a value is found or a note is made. What its members and calls mean is said at `Term`.
 pub trait Plain {
+    /// What is kept beside a base, so that its rooms and its reach are found sooner; `()` where nothing is kept.
+    type Note: Drop;
+
     /// The places of the ground, by local place.
     ghost places: { Self → List ℕ };
 
@@ -25,18 +29,34 @@ pub trait Plain {
     /// The base that `start_of` gives at a factor.
     ghost start_of: { Self → ℤ → List ℤ };
 
+    /// Where it holds, `value_of` takes no memory and answers Ok.
+    ghost lean_value: { Self → Type 0 } = { λ _. Unit {0} };
+
+    /// What a note keeps is true of a base at a factor.
+    ghost fits: { Self → Self.Note → ℤ → List ℤ → Type 0 } = { λ _ _ _ _. Unit {0} };
+
     /// The places of the ground, by local place: distinct.
     fn elements_of(&self) -> &[usize]
         ensures { result.now ≡ places self.now };
+
+    /// Whether a row is cheap, or cheaper beside others, so that it is to be found again at once. Nothing hangs on it.
+    fn has_cheap_rows(&self) -> bool {
+        false
+    }
 
     /// A bound on the magnitude of each value.
     fn size_of(&self) -> i128
         ensures { result ≡ size_of self.now };
 
     /// The value of a part, or None exactly where the part is not allowed.
-    fn value_of(&self, s: &Set) -> Option<i128>
+    ///
+    /// # Errors
+    ///
+    /// `Memory` where there is none, and never where the value is lean.
+    fn value_of(&self, alloc: Global, s: &Set) -> Result<Option<i128>, Memory>
         requires { length s.now ≡ length (places self.now) }
-        ensures { result ≡ value_of self.now s.now };
+        ensures value { IfOk result (λ r. r ≡ value_of self.now s.now) }
+        ensures sure { lean_value self.now → IsOk result };
 
     /// Writes a first base of q times the term.
     fn start_of(&self, q: i128, x: &mut [i128])
@@ -51,27 +71,53 @@ pub trait Plain {
         requires small { All IsEntry x.now }
         ensures { IsTrue result ↔ IsBase (times q (value_of self.now)) x.now };
 
-    /// The room of (u, v) at a base.
-    fn room_of(&self, q: i128, x: &[i128], u: usize, v: usize) -> Room
-        requires factor { IsFactor q }
-        requires entries { length x.now ≡ length (places self.now) }
-        requires small { All IsEntry x.now }
-        requires base { IsBase (times q (value_of self.now)) x.now }
+    /// The room of (u, v) at a base, by a note that fits it if there is one.
+    fn room_of(&self, at: &At<'_>, note: Option<&Self::Note>, u: usize, v: usize) -> Room
+        requires factor { IsFactor at.now.q }
+        requires entries { length at.now.x.now ≡ length (places self.now) }
+        requires small { All IsEntry at.now.x.now }
+        requires base { IsBase (times at.now.q (value_of self.now)) at.now.x.now }
+        requires noted { IfSome note (λ n. fits self.now n.now at.now.q at.now.x.now) }
         requires apart { u ≢ v }
-        requires from { u < length x.now }
-        requires onto { v < length x.now }
-        ensures { IsRoom (times q (value_of self.now)) x.now u v result };
+        requires from { u < length at.now.x.now }
+        requires onto { v < length at.now.x.now }
+        ensures { IsRoom (times at.now.q (value_of self.now)) at.now.x.now u v result };
 
-    /// Writes the places other than u to which u has room at a base.
-    fn reach_of(&self, q: i128, x: &[i128], u: usize, to: &mut Set)
-        requires factor { IsFactor q }
-        requires entries { length x.now ≡ length (places self.now) }
-        requires small { All IsEntry x.now }
-        requires base { IsBase (times q (value_of self.now)) x.now }
-        requires from { u < length x.now }
-        requires room_for_answer { length to.old ≡ length x.now }
+    /// Writes the places other than u to which u has room at a base, by a note that fits it if there is one.
+    fn reach_of(&self, at: &At<'_>, note: Option<&Self::Note>, u: usize, to: &mut Set)
+        requires factor { IsFactor at.now.q }
+        requires entries { length at.now.x.now ≡ length (places self.now) }
+        requires small { All IsEntry at.now.x.now }
+        requires base { IsBase (times at.now.q (value_of self.now)) at.now.x.now }
+        requires noted { IfSome note (λ n. fits self.now n.now at.now.q at.now.x.now) }
+        requires from { u < length at.now.x.now }
+        requires room_for_answer { length to.old ≡ length at.now.x.now }
         ensures places { length to.new ≡ length to.old }
-        ensures reached { IsReach (times q (value_of self.now)) x.now u to.new };
+        ensures reached { IsReach (times at.now.q (value_of self.now)) at.now.x.now u to.new };
+
+    /// A note that fits a base.
+    ///
+    /// # Errors
+    ///
+    /// `Memory` where there is none.
+    fn note_of(&self, alloc: Global, at: &At<'_>) -> Result<Self::Note, Memory>
+        requires factor { IsFactor at.now.q }
+        requires entries { length at.now.x.now ≡ length (places self.now) }
+        requires small { All IsEntry at.now.x.now }
+        requires base { IsBase (times at.now.q (value_of self.now)) at.now.x.now }
+        ensures { IfOk result (λ r. fits self.now r at.now.q at.now.x.now) };
+
+    /// Brings a note that fits a base up to the base that an exchange makes.
+    fn note_moved(&self, at: &At<'_>, note: &mut Self::Note, swap: &Swap)
+        requires factor { IsFactor at.now.q }
+        requires entries { length at.now.x.now ≡ length (places self.now) }
+        requires small { All IsEntry at.now.x.now }
+        requires base { IsBase (times at.now.q (value_of self.now)) at.now.x.now }
+        requires noted { fits self.now note.old at.now.q at.now.x.now }
+        requires can { CanSwap (times at.now.q (value_of self.now)) at.now.x.now swap.now.u
+            swap.now.v swap.now.a }
+        ensures { fits self.now note.new at.now.q (exchanged at.now.x.now swap.now.u swap.now.v
+            swap.now.a) };
 
     /// The empty and the whole part are allowed, and unions and intersections of allowed parts are.
     ghost family: { (term : Self) → IsFamily (length (places term)) (value_of term) };
@@ -97,8 +143,15 @@ pub trait Plain {
         → start_of term q ≡ map (λ a. q *ℤ a) (start_of term (pos 1)) };
 }
 
+/// No note. The term tells how long one might live.
+fn no_note<T: Plain>(_term: &T) -> Option<&T::Note>
+    ensures { result ≡ None }
+{
+    None
+}
+
 impl<T: Plain> Term for T {
-    type Note = ();
+    type Note = T::Note;
 
     ghost places = { T.places };
 
@@ -108,11 +161,11 @@ impl<T: Plain> Term for T {
 
     ghost start_of = { T.start_of };
 
-    ghost lean_value = { λ s. Unit {0} };
+    ghost lean_value = { T.lean_value };
 
     ghost lean_calls = { λ s. Unit {0} };
 
-    ghost fits = { λ s note q x. Unit {0} };
+    ghost fits = { T.fits };
 
     ghost family = { T.family };
 
@@ -130,12 +183,16 @@ impl<T: Plain> Term for T {
         self.elements_of()
     }
 
+    fn asks_at_once(&self) -> bool {
+        self.has_cheap_rows()
+    }
+
     fn size(&self) -> i128 {
         self.size_of()
     }
 
-    fn value(&self, _alloc: Global, s: &Set) -> Result<Option<i128>, Memory> {
-        Ok(self.value_of(s))
+    fn value(&self, alloc: Global, s: &Set) -> Result<Option<i128>, Memory> {
+        self.value_of(alloc, s)
     }
 
     fn start(&self, _alloc: Global, q: i128, x: &mut [i128]) -> Result<(), Memory> {
@@ -148,37 +205,49 @@ impl<T: Plain> Term for T {
     }
 
     fn room(&self, _alloc: Global, at: &At<'_>, u: usize, v: usize) -> Result<Room, Memory> {
-        Ok(self.room_of(at.q, at.x, u, v))
+        Ok(self.room_of(at, no_note(self), u, v))
     }
 
     fn reach(&self, _alloc: Global, at: &At<'_>, u: usize, to: &mut Set) -> Result<(), Memory> {
-        self.reach_of(at.q, at.x, u, to);
+        self.reach_of(at, no_note(self), u, to);
         Ok(())
     }
 
-    fn note(&self, _alloc: Global, _at: &At<'_>) -> Result<(), Memory> {
-        Ok(())
+    fn note(&self, alloc: Global, at: &At<'_>) -> Result<T::Note, Memory> {
+        self.note_of(alloc, at)
     }
 
     fn reach_by(
         &self,
         _alloc: Global,
         at: &At<'_>,
-        _note: &mut (),
+        note: &mut T::Note,
         lead: &Lead,
         to: &mut Set,
     ) -> Result<(), Memory> {
-        self.reach_of(at.q, at.x, lead.from, to);
+        self.reach_of(at, Some(note), lead.from, to);
         Ok(())
+    }
+
+    fn room_by(
+        &self,
+        _alloc: Global,
+        at: &At<'_>,
+        note: &mut T::Note,
+        u: usize,
+        v: usize,
+    ) -> Result<Room, Memory> {
+        Ok(self.room_of(at, Some(note), u, v))
     }
 
     fn moved(
         &self,
         _alloc: Global,
-        _at: &At<'_>,
-        _note: &mut (),
-        _swap: &Swap,
+        at: &At<'_>,
+        note: &mut T::Note,
+        swap: &Swap,
     ) -> Result<(), Memory> {
+        self.note_moved(at, note, swap);
         Ok(())
     }
 }

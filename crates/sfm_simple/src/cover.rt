@@ -1,11 +1,11 @@
 // A number w that counts where a part has an element of the term.
 // The bases of q times it have no negative entry, and q·w in all: so v can give to u whatever v has.
-ghost use Rattle.std.specs.{Prelude.{◌≡◌, ◌↔◌, ◌<◌, ◌≤◌, length, ℤ, pos, ◌≤ℤ◌, IfOk, IsTrue, Option, Some}, List.{All}};
-ghost use Rattle.sfm_spec.specs.{Bounds.{IsFactor, IsGiven, AreElements}, Terms.{times, IsGreedy}, Kinds.{cover_value}};
+ghost use Rattle.std.specs.{Prelude.{◌≡◌, ◌↔◌, ◌≤◌, length, pos, ◌≤ℤ◌, IfOk, IsTrue}, List.{All}};
+ghost use Rattle.sfm_spec.specs.{Bounds.{IsFactor, IsGiven, AreElements}, Terms.{IsGreedy}, Kinds.{cover_value}};
 ghost use Rattle.sfm_simple.specs.CoverLaws.{cover_start, cover-family, cover-submodular, cover-bounded, cover-starts, cover-starts_small, cover-starts_times};
 
 use sfm_base::{Memory, Places, Set};
-use sfm_law::{Plain, Room, has_sum, product, put_others_over};
+use sfm_law::{At, Plain, Room, Swap, has_sum, product, put_others_over};
 use std::alloc::Global;
 
 /// A number for meeting the elements: the rank of a matroid of rank 1, times the number (Schrijver, Combinatorial
@@ -64,6 +64,8 @@ impl Cover {
 }
 
 impl Plain for Cover {
+    type Note = ();
+
     ghost places = { λ s. s.places };
 
     ghost value_of = { λ s. cover_value s.w };
@@ -93,11 +95,11 @@ impl Plain for Cover {
     }
 
     /// The value of a part: every part is allowed.
-    fn value_of(&self, s: &Set) -> Option<i128> {
+    fn value_of(&self, _alloc: Global, s: &Set) -> Result<Option<i128>, Memory> {
         if s.size() == 0 {
-            return Some(0);
+            return Ok(Some(0));
         }
-        Some(self.w)
+        Ok(Some(self.w))
     }
 
     /// Writes the base with all of q·w at the first place.
@@ -116,12 +118,18 @@ impl Plain for Cover {
     }
 
     /// The room of (u, v) at a base: what v has.
-    fn room_of(&self, _q: i128, x: &[i128], _u: usize, v: usize) -> Room {
-        Room::Upto(x[v])
+    fn room_of(&self, at: &At<'_>, _note: Option<&()>, _u: usize, v: usize) -> Room {
+        Room::Upto(at.x[v])
     }
 
     /// Writes the places other than u to which u has room at a base: those that have something.
-    fn reach_of(&self, _q: i128, x: &[i128], u: usize, to: &mut Set) {
-        put_others_over(x, u, Some(0), to);
+    fn reach_of(&self, at: &At<'_>, _note: Option<&()>, u: usize, to: &mut Set) {
+        put_others_over(at.x, u, Some(0), to);
     }
+
+    fn note_of(&self, _alloc: Global, _at: &At<'_>) -> Result<(), Memory> {
+        Ok(())
+    }
+
+    fn note_moved(&self, _at: &At<'_>, _note: &mut (), _swap: &Swap) {}
 }

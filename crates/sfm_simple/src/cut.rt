@@ -1,12 +1,13 @@
 // A number c that counts where a part has the first of two elements and not the second.
 // The bases of q times it are t at the first and -t at the second, with t from 0 to q·c.
-ghost use Rattle.std.specs.Prelude.{◌≡◌, ◌≢◌, ◌↔◌, ◌<◌, ◌≤◌, [], ◌∷◌, length, ℤ, pos, ◌+ℤ◌, ◌≤ℤ◌, IsTrue, Option, Some};
-ghost use Rattle.sfm_spec.specs.{Bounds.{IsEntry, IsFactor, IsGiven, AreElements}, Terms.{times, IsGreedy}, Kinds.{cut_value}};
+ghost use Rattle.std.specs.Prelude.{◌≡◌, ◌≢◌, ◌↔◌, ◌<◌, [], ◌∷◌, length, pos, ◌+ℤ◌, ◌≤ℤ◌, IsTrue};
+ghost use Rattle.sfm_spec.specs.{Bounds.{IsEntry, IsFactor, IsGiven, AreElements}, Terms.{IsGreedy}, Kinds.{cut_value}};
 ghost use Rattle.sfm_simple.specs.CutLaws.{cut_start, cut-family, cut-submodular, cut-bounded, cut-starts, cut-starts_small, cut-starts_times};
 
 use crate::pair::put_other;
-use sfm_base::Set;
-use sfm_law::{Plain, Room, product};
+use sfm_base::{Memory, Set};
+use sfm_law::{At, Plain, Room, Swap, product};
+use std::alloc::Global;
 
 /// The capacity of an arc from the first element to the second: a cut function (Schrijver, Combinatorial Optimization,
 /// section 44).
@@ -55,6 +56,8 @@ impl Cut {
 }
 
 impl Plain for Cut {
+    type Note = ();
+
     ghost places = { λ s. s.places };
 
     ghost value_of = { λ s. cut_value s.c };
@@ -84,11 +87,11 @@ impl Plain for Cut {
     }
 
     /// The value of a part: every part is allowed.
-    fn value_of(&self, s: &Set) -> Option<i128> {
+    fn value_of(&self, _alloc: Global, s: &Set) -> Result<Option<i128>, Memory> {
         if s.contains(0) && !s.contains(1) {
-            return Some(self.c);
+            return Ok(Some(self.c));
         }
-        Some(0)
+        Ok(Some(0))
     }
 
     /// Writes the base that moves q·c from the second place to the first.
@@ -109,15 +112,21 @@ impl Plain for Cut {
     }
 
     /// The room of (u, v) at a base: what is left of q·c from the first to the second, else what the first has.
-    fn room_of(&self, q: i128, x: &[i128], u: usize, _v: usize) -> Room {
+    fn room_of(&self, at: &At<'_>, _note: Option<&()>, u: usize, _v: usize) -> Room {
         if u == 0 {
-            return Room::Upto(product(q, self.c) - x[0]);
+            return Room::Upto(product(at.q, self.c) - at.x[0]);
         }
-        Room::Upto(x[0])
+        Room::Upto(at.x[0])
     }
 
     /// Writes the places other than u to which u has room at a base.
-    fn reach_of(&self, q: i128, x: &[i128], u: usize, to: &mut Set) {
-        put_other(self.room_of(q, x, u, 1 - u), u, to);
+    fn reach_of(&self, at: &At<'_>, note: Option<&()>, u: usize, to: &mut Set) {
+        put_other(self.room_of(at, note, u, 1 - u), u, to);
     }
+
+    fn note_of(&self, _alloc: Global, _at: &At<'_>) -> Result<(), Memory> {
+        Ok(())
+    }
+
+    fn note_moved(&self, _at: &At<'_>, _note: &mut (), _swap: &Swap) {}
 }

@@ -1,4 +1,4 @@
-// The plain kinds of terms. Each has its calls without an allocator, to which the trait's calls pass on.
+// The kinds of terms that keep nothing beside a base. What is asked of them takes no memory.
 #![tactic(auto)]
 
 mod breach;

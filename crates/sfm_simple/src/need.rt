@@ -1,13 +1,14 @@
 // A condition: a part with the first of two elements has the second too. Each allowed part has the value 0.
 // Its bases are t at the first and -t at the second, with t at least 0: from the first to the second every number can
 // be exchanged, and from the second to the first as much as the first has.
-ghost use Rattle.std.specs.Prelude.{◌≡◌, ◌≢◌, ◌↔◌, ◌<◌, ◌≤◌, [], ◌∷◌, length, ℤ, pos, ◌+ℤ◌, ◌≤ℤ◌, IsTrue, Option, Some};
-ghost use Rattle.sfm_spec.specs.{Bounds.{IsEntry, AreElements}, Terms.{times}, Kinds.{need_value}};
+ghost use Rattle.std.specs.Prelude.{◌≡◌, ◌≢◌, ◌↔◌, ◌<◌, [], ◌∷◌, length, pos, ◌+ℤ◌, ◌≤ℤ◌, IsTrue};
+ghost use Rattle.sfm_spec.specs.{Bounds.{IsEntry, AreElements}, Kinds.{need_value}};
 ghost use Rattle.sfm_simple.specs.NeedLaws.{need-family, need-submodular, need-bounded, need-starts, need-starts_small, need-starts_times};
 
 use crate::pair::put_other;
-use sfm_base::Set;
-use sfm_law::{Plain, Room};
+use sfm_base::{Memory, Set};
+use sfm_law::{At, Plain, Room, Swap};
+use std::alloc::Global;
 
 /// A condition that ties the first of two elements to the second: the parts that keep it are closed under union and
 /// intersection (Schrijver, Combinatorial Optimization, section 49).
@@ -49,6 +50,8 @@ impl Need {
 }
 
 impl Plain for Need {
+    type Note = ();
+
     ghost places = { λ s. s.places };
 
     ghost value_of = { λ s. need_value };
@@ -78,11 +81,11 @@ impl Plain for Need {
     }
 
     /// The value of a part: 0, or None where the part has the first element and not the second.
-    fn value_of(&self, s: &Set) -> Option<i128> {
+    fn value_of(&self, _alloc: Global, s: &Set) -> Result<Option<i128>, Memory> {
         if s.contains(0) && !s.contains(1) {
-            return None;
+            return Ok(None);
         }
-        Some(0)
+        Ok(Some(0))
     }
 
     /// Writes the base of zeros.
@@ -97,15 +100,21 @@ impl Plain for Need {
     }
 
     /// The room of (u, v) at a base: unbounded from the first to the second, else what the first has.
-    fn room_of(&self, _q: i128, x: &[i128], u: usize, _v: usize) -> Room {
+    fn room_of(&self, at: &At<'_>, _note: Option<&()>, u: usize, _v: usize) -> Room {
         if u == 0 {
             return Room::Unbounded;
         }
-        Room::Upto(x[0])
+        Room::Upto(at.x[0])
     }
 
     /// Writes the places other than u to which u has room at a base.
-    fn reach_of(&self, q: i128, x: &[i128], u: usize, to: &mut Set) {
-        put_other(self.room_of(q, x, u, 1 - u), u, to);
+    fn reach_of(&self, at: &At<'_>, note: Option<&()>, u: usize, to: &mut Set) {
+        put_other(self.room_of(at, note, u, 1 - u), u, to);
     }
+
+    fn note_of(&self, _alloc: Global, _at: &At<'_>) -> Result<(), Memory> {
+        Ok(())
+    }
+
+    fn note_moved(&self, _at: &At<'_>, _note: &mut (), _swap: &Swap) {}
 }

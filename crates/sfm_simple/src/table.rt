@@ -1,8 +1,8 @@
 // A number for each part of at most eight elements, listed in binary counting: any submodular function of them.
 // All calls go through the parts: what a part leaves of its value is its slack, a base leaves none negative, and the room
 // of (u, v) is the least slack of a part with u and not v.
-ghost use Rattle.std.specs.{Prelude.{◌≡◌, ◌≢◌, ◌↔◌, ℕ, ◌+◌, ◌-◌, ◌<◌, ◌≤◌, ◌^◌, true, false, length, slice_index_or, ℤ, pos, ◌*ℤ◌, ◌≤ℤ◌, IfOk, OnOk, IsTrue, Option, Some, Ok, Err}, List.{All}};
-ghost use Rattle.sfm_spec.specs.{Bounds.{IsAtMost, IsEntry, IsFactor, IsGiven, AreElements}, Sets.{Has}, Terms.{times, IsSubmodular, IsGreedy}, Kinds.{table_value}};
+ghost use Rattle.std.specs.{Prelude.{◌≡◌, ◌≢◌, ◌↔◌, ℕ, ◌<◌, ◌≤◌, ◌^◌, length, slice_index_or, pos, ◌*ℤ◌, ◌≤ℤ◌, IfOk, OnOk, IsTrue, Err}, List.{All}};
+ghost use Rattle.sfm_spec.specs.{Bounds.{IsAtMost, IsEntry, IsFactor, IsGiven, AreElements}, Sets.{Has}, Terms.{IsSubmodular, IsGreedy}, Kinds.{table_value}};
 ghost use Rattle.sfm_law.specs.Values.{greatest};
 ghost use Rattle.sfm_simple.specs.{Subsets.{members}, Breaches.{IsFirstBreach}, TableLaws.{gain_of, table_start, slack_of, Separates, IsLeastSlack, table-family, table-bounded, table-starts, table-starts_small, table-starts_times}};
 
@@ -10,7 +10,7 @@ use crate::breach::first_breach;
 use crate::place::all_but;
 use crate::subset::{has, keep_members, number_of, sum_at, unit};
 use sfm_base::{Memory, Numbers, Places, Set};
-use sfm_law::{Plain, Room, greatest_magnitude, product, write_each};
+use sfm_law::{At, Plain, Room, Swap, greatest_magnitude, product, write_each};
 use std::alloc::Global;
 
 /// Why numbers make no table.
@@ -241,6 +241,8 @@ impl Table {
 }
 
 impl Plain for Table {
+    type Note = ();
+
     ghost places = { λ s. s.places };
 
     ghost value_of = { λ s. table_value s.values };
@@ -270,8 +272,8 @@ impl Plain for Table {
     }
 
     /// The value of a part: every part is allowed.
-    fn value_of(&self, s: &Set) -> Option<i128> {
-        Some(self.listed(number_of(s)))
+    fn value_of(&self, _alloc: Global, s: &Set) -> Result<Option<i128>, Memory> {
+        Ok(Some(self.listed(number_of(s))))
     }
 
     /// Writes what each place adds to those before it: the greedy base.
@@ -290,13 +292,19 @@ impl Plain for Table {
     }
 
     /// The room of (u, v) at a base: the least slack of a part with u and not v.
-    fn room_of(&self, q: i128, x: &[i128], u: usize, v: usize) -> Room {
-        Room::Upto(self.least_slack(q, x, u, v))
+    fn room_of(&self, at: &At<'_>, _note: Option<&()>, u: usize, v: usize) -> Room {
+        Room::Upto(self.least_slack(at.q, at.x, u, v))
     }
 
     /// Writes the places other than u to which u has room at a base: those in each part with u that has no slack.
-    fn reach_of(&self, q: i128, x: &[i128], u: usize, to: &mut Set) {
+    fn reach_of(&self, at: &At<'_>, _note: Option<&()>, u: usize, to: &mut Set) {
         all_but(to, u);
-        self.keep_tight(q, x, u, to);
+        self.keep_tight(at.q, at.x, u, to);
     }
+
+    fn note_of(&self, _alloc: Global, _at: &At<'_>) -> Result<(), Memory> {
+        Ok(())
+    }
+
+    fn note_moved(&self, _at: &At<'_>, _note: &mut (), _swap: &Swap) {}
 }

@@ -1,11 +1,11 @@
 // A number for each element; the value of a part is the sum of its numbers.
 // The one base of q times it is q times the numbers, so nothing can be exchanged.
-ghost use Rattle.std.specs.{Prelude.{◌≡◌, ◌↔◌, ◌<◌, ◌≤◌, true, false, length, pos, IfOk, IsTrue, Option, Some, if◌then◌else◌}, List.{All}};
-ghost use Rattle.sfm_spec.specs.{Bounds.{IsFactor, IsGiven, AreElements}, Sets.{sum_over, magnitudes}, Terms.{times, IsGreedy}, Kinds.{weight_value}};
+ghost use Rattle.std.specs.{Prelude.{◌≡◌, ◌↔◌, ◌≤◌, length, pos, IfOk, IsTrue, if◌then◌else◌}, List.{All}};
+ghost use Rattle.sfm_spec.specs.{Bounds.{IsFactor, IsGiven, AreElements}, Sets.{sum_over, magnitudes}, Terms.{IsGreedy}, Kinds.{weight_value}};
 ghost use Rattle.sfm_simple.specs.WeightLaws.{scaled, weight-family, weight-submodular, weight-bounded, weight-starts, weight-starts_small, weight-starts_times};
 
 use sfm_base::{Memory, Numbers, Places, Set};
-use sfm_law::{Plain, Room, magnitude, product};
+use sfm_law::{At, Plain, Room, Swap, magnitude, product};
 use std::alloc::Global;
 
 /// A number for each element: a modular function (Schrijver, Combinatorial Optimization, section 44).
@@ -119,6 +119,8 @@ impl Weight {
 }
 
 impl Plain for Weight {
+    type Note = ();
+
     ghost places = { λ s. s.places };
 
     ghost value_of = { λ s. weight_value s.weights };
@@ -148,8 +150,8 @@ impl Plain for Weight {
     }
 
     /// The value of a part: every part is allowed.
-    fn value_of(&self, s: &Set) -> Option<i128> {
-        Some(self.sum_of(s))
+    fn value_of(&self, _alloc: Global, s: &Set) -> Result<Option<i128>, Memory> {
+        Ok(Some(self.sum_of(s)))
     }
 
     /// Writes the one base of q times the term.
@@ -168,12 +170,18 @@ impl Plain for Weight {
     }
 
     /// The room of (u, v) at a base: none.
-    fn room_of(&self, _q: i128, _x: &[i128], _u: usize, _v: usize) -> Room {
+    fn room_of(&self, _at: &At<'_>, _note: Option<&()>, _u: usize, _v: usize) -> Room {
         Room::Upto(0)
     }
 
     /// Writes the places other than u to which u has room at a base: none.
-    fn reach_of(&self, _q: i128, _x: &[i128], _u: usize, to: &mut Set) {
+    fn reach_of(&self, _at: &At<'_>, _note: Option<&()>, _u: usize, to: &mut Set) {
         to.clear();
     }
+
+    fn note_of(&self, _alloc: Global, _at: &At<'_>) -> Result<(), Memory> {
+        Ok(())
+    }
+
+    fn note_moved(&self, _at: &At<'_>, _note: &mut (), _swap: &Swap) {}
 }

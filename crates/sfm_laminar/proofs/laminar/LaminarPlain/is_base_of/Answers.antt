@@ -2,7 +2,7 @@ use Rattle.std.proofs.Common.{FitsSigned}
 use Rattle.std.proofs.lemmas.Int.{to_z-of_z}
 use mir.Syntax.{w128}
 use Rattle.sfm_laminar.proofs.Bases.{laminar_tested, refused}
-use Rattle.sfm_laminar.proofs.laminar.Laminar.is_base_of.Goals as goal
+use Rattle.sfm_laminar.proofs.laminar.LaminarPlain.is_base_of.Goals as goal
 
 pub returns-then-not-are_capped : goal.returns-then-not-are_capped
 returns-then-not-are_capped c =

@@ -6,7 +6,7 @@ use Rattle.sfm_concave.proofs.Above.{length-above}
 use Rattle.sfm_concave.proofs.ConcaveRooms.{base_by_thresholds, concave_slack, concave_total}
 use Rattle.sfm_law.proofs.Fits.{at_most_more, share_fits}
 use Rattle.sfm_law.proofs.Totals.{total_of-whole}
-use Rattle.sfm_concave.proofs.concave.Concave.is_base_of.Goals as goal
+use Rattle.sfm_concave.proofs.concave.ConcavePlain.is_base_of.Goals as goal
 
 pub returns-then-has_sum : goal.returns-then-has_sum
 returns-then-has_sum c =

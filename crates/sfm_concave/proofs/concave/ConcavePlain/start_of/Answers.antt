@@ -5,7 +5,7 @@ use Rattle.sfm_spec.specs.Terms.{IsGreedy}
 use Rattle.sfm_spec.specs.Kinds.{concave_value}
 use Rattle.sfm_law.proofs.Entries.{written}
 use Rattle.sfm_concave.specs.ConcaveLaws.{gain_of, concave-greedy}
-use Rattle.sfm_concave.proofs.concave.Concave.start_of.Goals as goal
+use Rattle.sfm_concave.proofs.concave.ConcavePlain.start_of.Goals as goal
 
 pub returns : goal.returns
 returns c =

@@ -5,7 +5,7 @@ use mir.Syntax.{w128}
 use Rattle.sfm_rank.proofs.Terms.{at_places-length}
 use Rattle.sfm_laminar.specs.LaminarLaws.{laminar_start, laminar-greedy, basis_of}
 use Rattle.sfm_laminar.proofs.Kept.{length-basis}
-use Rattle.sfm_laminar.proofs.laminar.Laminar.start_of.Goals as goal
+use Rattle.sfm_laminar.proofs.laminar.LaminarPlain.start_of.Goals as goal
 
 pub returns : goal.returns
 returns c =

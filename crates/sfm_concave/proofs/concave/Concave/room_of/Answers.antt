@@ -1,6 +1,0 @@
-use Rattle.std.proofs.lemmas.Int.{to_z-of_z}
-use mir.Syntax.{w128}
-use Rattle.sfm_concave.proofs.concave.Concave.room_of.Goals as goal
-
-pub returns : goal.returns
-returns c = simp (to_z-of_z w128 c.args.q c.ranges.q) at c.room_noted.ensures
