@@ -1,5 +1,5 @@
-// How long the text of a number is, without its text: a text is measured before it is written, and most of it is numbers.
-// Most numbers are small, so these are told by comparisons, and larger ones lose four digits at a time.
+// How long the text of a number is, without its text: an answer that outgrows the room made for it is measured, and most of it is
+// numbers. Most numbers are small, so these are told by comparisons, and larger ones lose four digits at a time.
 ghost use Rattle.std.specs.{Prelude.{◌≡◌, ◌<◌, ◌^◌, length}, Fmt.{decimal, signed_decimal}};
 
 /// How many digits a number below 10,000 has.
