@@ -1,5 +1,6 @@
 // A page takes bytes at its end. Its room is made first, by a call that can be refused, so that what is put in it later
-// takes no memory. The bytes and the room that is left never exceed what was reserved.
+// takes no memory. The room is there as zeros behind the bytes that were put, so a byte is put by one write, which looks for no
+// room.
 ghost use Rattle.std.specs.Prelude.{◌≡◌, ◌-◌, ◌≤◌, [], ◌∷◌, ◌++◌, length, OnOk, OnErr};
 ghost use Rattle.sfm_base.specs.Page.{PageData};
 
@@ -10,19 +11,24 @@ use std::marker::Model;
 /// Bytes in order, seen as their list and the number of further bytes that there is room for.
 #[derive(Drop)]
 pub struct Page {
-    bytes: Vec<u8>,
-    spare: usize,
+    // The bytes that were put, and zeros behind them.
+    room: Vec<u8>,
+    // How many bytes were put.
+    count: usize,
 }
 
 impl Model for Page {
-    ghost use Rattle.std.specs.Prelude.{◌+◌, ◌≤◌, vec_len, vec_capacity};
+    ghost use Rattle.std.specs.Prelude.{◌-◌, ◌≤◌, length, take};
     ghost use Rattle.sfm_base.specs.Page.{PageData};
 
     ghost Value = { PageData };
 
-    ghost view = { λ s. record { bytes = s.bytes.items; spare = s.spare } };
+    ghost view = { λ s. record {
+      bytes = take s.count s.room.items;
+      spare = length s.room.items - s.count;
+    } };
 
-    ghost invariant = { λ s. vec_len s.bytes + s.spare ≤ vec_capacity s.bytes };
+    ghost invariant = { λ s. s.count ≤ length s.room.items };
 }
 
 impl Page {
@@ -31,8 +37,8 @@ impl Page {
         ensures { result ≡ record { bytes = []; spare = 0 } }
     {
         Page {
-            bytes: Vec::new(alloc),
-            spare: 0,
+            room: Vec::new(alloc),
+            count: 0,
         }
     }
 
@@ -46,9 +52,11 @@ impl Page {
         ensures room { OnOk result (k ≤ self.new.spare) }
         ensures unchanged { OnErr result (self.new ≡ self.old) }
     {
-        if k > self.spare {
-            self.bytes.reserve_exact(k)?;
-            self.spare = k;
+        let spare = self.spare();
+        if k > spare {
+            let more = k - spare;
+            self.room.reserve_exact(more)?;
+            self.room.resize(self.room.len() + more, 0)?;
         }
         Ok(())
     }
@@ -61,8 +69,9 @@ impl Page {
           spare = self.old.spare - length bytes.now;
         } }
     {
-        self.bytes.extend_from_slice(bytes).unwrap();
-        self.spare -= bytes.len();
+        let end = self.count + bytes.len();
+        self.room[self.count..end].copy_from_slice(bytes);
+        self.count = end;
     }
 
     /// Puts one byte at the end. It takes no memory.
@@ -74,28 +83,30 @@ impl Page {
           spare = self.old.spare - 1;
         } }
     {
-        self.bytes.push(byte).unwrap();
-        self.spare -= 1;
+        self.room[self.count] = byte;
+        self.count += 1;
     }
 
     /// How many further bytes there is room for.
     pub fn spare(&self) -> usize
         ensures { result ≡ self.now.spare }
     {
-        self.spare
+        self.room.len() - self.count
     }
 
     /// The bytes.
     pub fn bytes(&self) -> &[u8]
         ensures { result.now ≡ self.now.bytes }
     {
-        self.bytes.as_slice()
+        &self.room[..self.count]
     }
 
     /// The bytes as a list of their own. It takes no memory.
     pub fn into_vec(self) -> Vec<u8>
         ensures { result.items ≡ self.bytes }
     {
-        self.bytes
+        let Self { mut room, count } = self;
+        room.truncate(count);
+        room
     }
 }
