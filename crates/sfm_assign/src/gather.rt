@@ -50,7 +50,7 @@ fn is_held(shares: &Shares, s: usize, f: usize) -> bool
     ensures { IsTrue result → IsHeldBy shares.now.cells.whos.items shares.now.cells.slots.items
         shares.now.y.items s f }
 {
-    f < shares.y.len() && shares.cells.slots[f] == s && shares.y[f] > 0
+    f < shares.y.len() && shares.cells.all().slots[f] == s && shares.y[f] > 0
 }
 
 /// A cell of the slot s that has something on it, if there is one.
@@ -61,7 +61,8 @@ fn held_cell(shares: &Shares, s: usize) -> Option<usize>
         shares.now.cells.slots.items shares.now.y.items s h → ⊥)
         (IsHeldBy shares.now.cells.whos.items shares.now.cells.slots.items shares.now.y.items s) }
 {
-    for f in shares.cells.by_slot.list(s) {
+    let cells = shares.cells.all();
+    for f in cells.by_slot.list(s) {
         if shares.y[*f] > 0 {
             return Some(*f);
         }
@@ -80,12 +81,12 @@ fn holder_of(at: &mut Spread, shares: &Shares, s: usize) -> Option<usize>
 {
     if let Some(f) = at.hinted(s) {
         if is_held(shares, s, f) {
-            return Some(shares.cells.whos[f]);
+            return Some(shares.cells.all().whos[f]);
         }
     }
     let f = held_cell(shares, s)?;
     at.hint(s, f);
-    Some(shares.cells.whos[f])
+    Some(shares.cells.all().whos[f])
 }
 
 /// Puts what is told to a set, or tells room.
@@ -199,8 +200,9 @@ pub(crate) fn gather(
         (slice_set to.new u true))) }
 {
     to.clear();
-    for e in split.shares.cells.by_who.list(u) {
-        let s = split.shares.cells.slots[*e];
+    let cells = split.shares.cells.all();
+    for e in cells.by_who.list(u) {
+        let s = cells.slots[*e];
         if split.rooms[s] > 0 {
             return Ok(true);
         }

@@ -147,7 +147,7 @@ fn find_more(
 {
     let _sound = demand.demands();
     begin(work, demand, split.shares, split.rooms)?;
-    let more = raise_most(alloc, &split.shares.cells, work, u, limit)?;
+    let more = raise_most(alloc, split.shares.cells.all(), work, u, limit)?;
     Ok(more)
 }
 
@@ -184,7 +184,12 @@ impl Kept {
         ensures { IfOk result (λ r. r.demand ≡ demand) }
     {
         let beside = Beside::new(alloc, demand.demands().len())?;
-        let rooms = left_of(alloc, demand.capacities(), &shares.cells.slots, &shares.y)?;
+        let rooms = left_of(
+            alloc,
+            demand.capacities(),
+            &shares.cells.all().slots,
+            &shares.y,
+        )?;
         Ok(Kept {
             demand,
             shares,
@@ -329,7 +334,7 @@ impl Kept {
             work.new.left.rooms.items u limit) }
     {
         self.find_met(alloc, work, aim)?;
-        let more = raise_most(alloc, &self.shares.cells, work, u, limit)?;
+        let more = raise_most(alloc, self.shares.cells.all(), work, u, limit)?;
         Ok(more)
     }
 

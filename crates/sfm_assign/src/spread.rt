@@ -270,7 +270,7 @@ impl Spread {
         if shares.y[link.own] <= 0 {
             return Ok(None);
         }
-        let f = shares.cells.whos[link.own];
+        let f = shares.cells.all().whos[link.own];
         if self.found.contains(f) {
             return Ok(None);
         }
@@ -316,8 +316,9 @@ impl Spread {
             (IsAnswer (length answers.now) shares.now.cells.whos.items shares.now.cells.slots.items
             shares.now.y.items rooms.now self.old.from)) }
     {
-        let s = shares.cells.slots[e];
-        for own in shares.cells.by_slot.list(s) {
+        let cells = shares.cells.all();
+        let s = cells.slots[e];
+        for own in cells.by_slot.list(s) {
             let link = Link {
                 own: *own,
                 other: e,
@@ -359,7 +360,7 @@ impl Spread {
             (IsAnswer (length answers.now) shares.now.cells.whos.items shares.now.cells.slots.items
             shares.now.y.items rooms.now self.old.from)) }
     {
-        let s = shares.cells.slots[e];
+        let s = shares.cells.all().slots[e];
         if self.marks.contains(s) {
             return Ok(None);
         }
@@ -396,7 +397,7 @@ impl Spread {
             shares.now.y.items rooms.now self.old.from)) }
     {
         let g = self.queue[self.next];
-        for e in shares.cells.by_who.list(g) {
+        for e in shares.cells.all().by_who.list(g) {
             if let Some(answer) = self.visit(alloc, shares, rooms, answers, *e)? {
                 return Ok(Some(answer));
             }

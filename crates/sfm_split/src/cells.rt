@@ -70,19 +70,6 @@ impl Cells {
         })
     }
 
-    /// A copy.
-    pub(crate) fn copy(&self, alloc: Global) -> Result<Cells, Memory>
-        ensures whos { IfOk result (λ r. r.whos.items ≡ self.now.whos.items) }
-        ensures slots { IfOk result (λ r. r.slots.items ≡ self.now.slots.items) }
-    {
-        Ok(Cells {
-            whos: Vec::from_slice(alloc, &self.whos)?,
-            slots: Vec::from_slice(alloc, &self.slots)?,
-            by_who: self.by_who.copy(alloc)?,
-            by_slot: self.by_slot.copy(alloc)?,
-        })
-    }
-
     /// Nothing on each cell.
     pub(crate) fn nothing(&self, alloc: Global) -> Result<Vec<i128>, Memory>
         ensures { IfOk result (λ y. y.items ≡ replicate (length self.now.whos.items) (pos 0)) }

@@ -83,14 +83,9 @@ pub fn find_amounts(
 {
     let _sound = demand.demands();
     begin(work, demand, shares, rooms)?;
-    turn(&shares.cells, demand, aim, &mut work.left, &mut work.y)?;
-    let told = search_all(
-        alloc,
-        &shares.cells,
-        &mut work.rest,
-        &mut work.left,
-        &mut work.y,
-    )?;
+    let cells = shares.cells.all();
+    turn(cells, demand, aim, &mut work.left, &mut work.y)?;
+    let told = search_all(alloc, cells, &mut work.rest, &mut work.left, &mut work.y)?;
     if let Some(set) = told {
         return Err(AssignEnd::Shortage { set });
     }

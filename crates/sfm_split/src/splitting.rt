@@ -10,6 +10,7 @@ use crate::left::{Lefts, lefts_of};
 use crate::multiples::list_times;
 use crate::nodes::found_set;
 use crate::pour::pour;
+use crate::shared::SharedCells;
 use crate::split::Split;
 use crate::work::Rest;
 use sfm_base::{Memory, Set};
@@ -37,7 +38,7 @@ impl From<Memory> for AssignEnd {
 /// The cells of demands, and the amount on each.
 #[derive(Drop)]
 pub struct Shares {
-    pub cells: Cells,
+    pub cells: SharedCells,
     pub y: Vec<i128>,
 }
 
@@ -53,7 +54,7 @@ impl Shares {
         ensures amounts { IfOk result (λ r. r.y.items ≡ self.now.y.items) }
     {
         Ok(Shares {
-            cells: self.cells.copy(alloc)?,
+            cells: self.cells.share()?,
             y: Vec::from_slice(alloc, &self.y)?,
         })
     }
@@ -70,7 +71,7 @@ impl Shares {
         ensures amounts { IfOk result (λ r. r.y.items ≡ map (λ a. m *ℤ a) self.now.y.items) }
     {
         Ok(Shares {
-            cells: self.cells.copy(alloc)?,
+            cells: self.cells.share()?,
             y: list_times(alloc, m, &self.y)?,
         })
     }
@@ -159,6 +160,7 @@ pub fn met_shares(alloc: Global, demand: &Demand) -> Result<Shares, AssignEnd>
     let cells = Cells::of(alloc, demand.lists(), demand.capacities().len())?;
     let mut y = cells.nothing(alloc)?;
     raise_to(alloc, demand, &cells, &mut y)?;
+    let cells = SharedCells::new(alloc, cells)?;
     Ok(Shares { cells, y })
 }
 

@@ -15,11 +15,11 @@ slot : (c : After-index-s) → let e = label_at c.list-e-items.result.now c.loop
 slot c =
     let e = label_at c.list-e-items.result.now c.loop-e.e-index in
     let cells = c.args.split.now.shares.now.cells in
-    let (lt, mine) = pass_here cells.whos_grouped c.list-e-items.ensures c.loop-e-test.true in
+    let (lt, mine) = pass_here cells.whos_grouped (rw c.all-cells.ensures at c.list-e-items.ensures) c.loop-e-test.true in
     let told = c.loop-e.invariant.told.cells in
     let same = told.same in
     let exist = told.exist e lt in
-    let is : c.index-s.result.now ≡ label_at cells.slots.items e = get_or_read cells.slots.items e c.index-s.result.now (omega (arith, lt, same)) c.index-s.ensures 0 in
+    let is : c.index-s.result.now ≡ label_at cells.slots.items e = get_or_read cells.slots.items e c.index-s.result.now (omega (arith, lt, same)) (rw c.all-cells.ensures at c.index-s.ensures) 0 in
     (lt, mine, is, omega (arith, is, exist))
 
 pub loop-e-init : goal.loop-e-init
@@ -36,9 +36,9 @@ loop-e-init c =
 
 pub index-s-requires : goal.index-s-requires
 index-s-requires c =
-    let (lt, mine) = pass_here c.args.split.now.shares.now.cells.whos_grouped c.list-e-items.ensures c.loop-e-test.true in
+    let (lt, mine) = pass_here c.args.split.now.shares.now.cells.whos_grouped (rw c.all-cells.ensures at c.list-e-items.ensures) c.loop-e-test.true in
     let same = c.loop-e.invariant.told.cells.same in
-    omega (arith, lt, same)
+    rw c.all-cells.ensures (omega (arith, lt, same))
 
 pub offset_bounds-split-s : goal.offset_bounds-split-s
 offset_bounds-split-s c = let (lt, mine, is, below) = slot (goal.at.offset_bounds-split-s c).After-index-s in omega (arith, below)
@@ -89,4 +89,4 @@ pub returns-clause-led : goal.returns-clause-led
 returns-clause-led c =
     let s = c.args.split.now.shares.now in
     let inv = c.loop-e.invariant in
-    gathered_all (length c.args.answers.now) s.cells.whos.items s.cells.slots.items s.y.items c.args.split.now.rooms.now c.args.u c.loop-e.to c.requires.place inv.gathered (pass_done s.cells.whos_grouped c.list-e-items.ensures c.loop-e-test.false inv.passed)
+    gathered_all (length c.args.answers.now) s.cells.whos.items s.cells.slots.items s.y.items c.args.split.now.rooms.now c.args.u c.loop-e.to c.requires.place inv.gathered (pass_done s.cells.whos_grouped (rw c.all-cells.ensures at c.list-e-items.ensures) c.loop-e-test.false inv.passed)

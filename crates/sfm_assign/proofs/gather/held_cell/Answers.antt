@@ -11,7 +11,7 @@ loop-f-init c = pass_begun c.list-f-items.result.now (nothing_on c.args.shares.n
 
 pub index-requires : goal.index-requires
 index-requires c =
-    let (lt, mine) = pass_here c.args.shares.now.cells.slots_grouped c.list-f-items.ensures c.loop-f-test.true in
+    let (lt, mine) = pass_here c.args.shares.now.cells.slots_grouped (rw c.all-cells.ensures at c.list-f-items.ensures) c.loop-f-test.true in
     let same = c.requires.same in
     let each = c.requires.each in
     omega (arith, lt, same, each)
@@ -20,7 +20,7 @@ pub returns-then-index-gt0 : goal.returns-then-index-gt0
 returns-then-index-gt0 c =
     let cells = c.args.shares.now.cells in
     let f = label_at c.list-f-items.result.now c.loop-f.f-index in
-    let (lt, mine) = pass_here c.args.shares.now.cells.slots_grouped c.list-f-items.ensures c.loop-f-test.true in
+    let (lt, mine) = pass_here c.args.shares.now.cells.slots_grouped (rw c.all-cells.ensures at c.list-f-items.ensures) c.loop-f-test.true in
     let same = c.requires.same in
     let each = c.requires.each in
     let within : f < length cells.whos.items = omega (arith, lt, each) in
@@ -31,7 +31,7 @@ returns-then-index-gt0 c =
 pub loop-f-preserved : goal.loop-f-preserved
 loop-f-preserved c =
     let f = label_at c.list-f-items.result.now c.loop-f.f-index in
-    let (lt, mine) = pass_here c.args.shares.now.cells.slots_grouped c.list-f-items.ensures c.loop-f-test.true in
+    let (lt, mine) = pass_here c.args.shares.now.cells.slots_grouped (rw c.all-cells.ensures at c.list-f-items.ensures) c.loop-f-test.true in
     let same = c.requires.same in
     let each = c.requires.each in
     let amount = get_or_read c.args.shares.now.y.items f c.index.result.now (omega (arith, lt, same, each)) c.index.ensures (pos 0) in
@@ -41,4 +41,4 @@ loop-f-preserved c =
 pub returns : goal.returns
 returns c =
     let each = c.requires.each in
-    λ h holds. let here = holds.exists in let some = holds.some in let none = pass_done c.args.shares.now.cells.slots_grouped c.list-f-items.ensures c.loop-f-test.false c.loop-f.invariant holds.cell (omega (arith, here, each)) holds.there in omega (arith, ints, some, none)
+    λ h holds. let here = holds.exists in let some = holds.some in let none = pass_done c.args.shares.now.cells.slots_grouped (rw c.all-cells.ensures at c.list-f-items.ensures) c.loop-f-test.false c.loop-f.invariant holds.cell (omega (arith, here, each)) holds.there in omega (arith, ints, some, none)

@@ -20,11 +20,11 @@ begin-requires c = record { met = c.requires.met }
 pub raise_most-requires : goal.raise_most-requires
 raise_most-requires c =
     let fq : FitsSigned w128 c.args.limit = c.ranges.limit in
-    (c.args.demand.now, simp to_z-of_z (begun (goal.at.raise_most-requires c).In_ok-begin))
+    (c.args.demand.now, rw c.all.ensures (simp to_z-of_z (begun (goal.at.raise_most-requires c).In_ok-begin)))
 
 pub returns : goal.returns
 returns c =
     let fq : FitsSigned w128 c.args.limit = c.ranges.limit in
     let fm : FitsSigned w128 c.in_ok-more.more = search rules in
-    let told = simp to_z-of_z at c.in_ok-more.ensures in
+    let told = rw c.all.ensures at (simp to_z-of_z at c.in_ok-more.ensures) in
     simp to_z-of_z (told c.args.demand.now (begun (goal.at.returns c).In_ok-begin))

@@ -22,7 +22,7 @@ turn-requires c =
       slots = r.slots;
       amounts = r.sound.amounts;
       bounded = r.sound.bounded;
-      stands = rw (c.deref_mut.ensures.value ∙ told.amounts) (record {
+      stands = rw (c.all-cells.ensures, c.deref_mut.ensures.value ∙ told.amounts) (record {
         cells = rw (r.met.in_order, r.met.in_lists) (cells_for c.args.demand.now sound);
         asked = sound.amounts;
         bounded = sound.bounded;
@@ -40,7 +40,7 @@ search_all-requires c =
     let told = c.in_ok-turn.ensures in
     let y = c.begin.new.work.y in
     let q = written c.turn.new.y (drop (length c.turn.new.y) y.items) y.len (wide (goal.at.search_all-requires c).In_ok-turn) in
-    record { within = rw (c.deref_mut-2.ensures.value ∙ q) (standing_within aim.demands.now aim.capacities.now cells.whos.items cells.slots.items c.turn.new.y left.lacks.items left.rooms.items told.stands); listed = told.listed }
+    record { within = rw (c.all-cells.ensures, c.deref_mut-2.ensures.value ∙ q) (standing_within aim.demands.now aim.capacities.now cells.whos.items cells.slots.items c.turn.new.y left.lacks.items left.rooms.items (rw c.all-cells.ensures at told.stands)); listed = told.listed }
 
 -- the amounts where the searches begin
 abbrev begun : List ℤ → List ℤ → ℕ → List ℤ
@@ -53,10 +53,10 @@ raised c long =
     let aim = c.args.aim.now in
     let cells = c.args.shares.now.cells in
     let left = c.turn.new.left in
-    let told = c.in_ok-turn.ensures.stands in
+    let told = rw c.all-cells.ensures at c.in_ok-turn.ensures.stands in
     let y = c.begin.new.work.y in
     let q = c.deref_mut-2.ensures.value ∙ written c.turn.new.y (drop (length c.turn.new.y) y.items) y.len long in
-    (rw q at c.in_ok-told.ensures.raised).each aim.demands.now aim.capacities.now c.turn.new.y told.cells (standing_pouring aim.demands.now aim.capacities.now cells.whos.items cells.slots.items c.turn.new.y left.lacks.items left.rooms.items told)
+    (rw (c.all-cells.ensures, q) at c.in_ok-told.ensures.raised).each aim.demands.now aim.capacities.now c.turn.new.y told.cells (standing_pouring aim.demands.now aim.capacities.now cells.whos.items cells.slots.items c.turn.new.y left.lacks.items left.rooms.items told)
 
 -- as many are written back
 back : (c : In_ok-told) → length c.turn.new.y ≡ c.begin.new.work.y.len → length c.search_all.new.y ≡ c.begin.new.work.y.len
@@ -70,8 +70,8 @@ returns-in-Some-clause-met c =
     let path = goal.at.returns-in-Some-clause-met c in
     let aim = c.args.aim.now in
     let p = raised path.In_ok-told (wide path.In_ok-turn) in
-    let end = rw c.in-Some.is at c.in_ok-told.ensures.told in
-    let told = end.each aim.demands.now aim.capacities.now c.turn.new.y c.in_ok-turn.ensures.stands.cells p in
+    let end = rw (c.all-cells.ensures, c.in-Some.is) at c.in_ok-told.ensures.told in
+    let told = end.each aim.demands.now aim.capacities.now c.turn.new.y (rw c.all-cells.ensures at c.in_ok-turn.ensures.stands).cells p in
     let part = rw (c.requires.met.in_order, c.requires.met.in_lists) at p.part in
     let lacking : IsLacking aim.demands.now aim.capacities.now (owners 0 c.args.demand.now.lists) (joined c.args.demand.now.lists) c.search_all.new.y c.in-Some.set = rw (c.requires.met.in_order, c.requires.met.in_lists) at told in
     lacking_end _ c.search_all.new.y c.in-Some.set c.requires.sound part lacking
@@ -82,8 +82,8 @@ returns-clause-met c =
     let aim = c.args.aim.now in
     let long = wide path.In_ok-turn in
     let p = raised path.In_ok-told long in
-    let end = rw c.in_default.is at c.in_ok-told.ensures.told in
-    let met = end.each aim.demands.now aim.capacities.now c.turn.new.y c.in_ok-turn.ensures.stands.cells p in
+    let end = rw (c.all-cells.ensures, c.in_default.is) at c.in_ok-told.ensures.told in
+    let met = end.each aim.demands.now aim.capacities.now c.turn.new.y (rw c.all-cells.ensures at c.in_ok-turn.ensures.stands).cells p in
     let q = written c.search_all.new.y (drop (length c.search_all.new.y) (begun c.turn.new.y c.begin.new.work.y.items c.begin.new.work.y.len)) c.begin.new.work.y.len (back path.In_ok-told long) in
     record { in_order = c.requires.met.in_order; in_lists = c.requires.met.in_lists; part = rw q p.part; met = rw q met }
 

@@ -18,4 +18,4 @@ returns-clause-shares c =
     let z = c.raise_to.new.y in
     let q = written z (drop (length z) y.items) y.len (c.raise_to.auto.y ∙ (ap length c.deref_mut.ensures.value ∙ sym y.ok.0)) in
     let met = c.in_ok-raise_to.ensures.met in
-    record { in_order = met.in_order; in_lists = met.in_lists; part = rw q met.part; met = rw q met.met }
+    rw c.in_ok-cells-2.ensures (record { in_order = met.in_order; in_lists = met.in_lists; part = rw q met.part; met = rw q met.met })

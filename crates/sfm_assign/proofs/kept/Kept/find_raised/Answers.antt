@@ -19,11 +19,11 @@ find_met-requires c = let r = c.requires in record { sized = r.sized; slots = r.
 pub raise_most-requires : goal.raise_most-requires
 raise_most-requires c =
     let fq : FitsSigned w128 c.args.limit = c.ranges.limit in
-    (record { demands = c.args.aim.now.demands.now; lists = c.args.self.now.demand.lists; capacities = c.args.aim.now.capacities.now }, simp to_z-of_z (met (goal.at.raise_most-requires c).In_ok-find_met))
+    (record { demands = c.args.aim.now.demands.now; lists = c.args.self.now.demand.lists; capacities = c.args.aim.now.capacities.now }, rw c.all.ensures (simp to_z-of_z (met (goal.at.raise_most-requires c).In_ok-find_met)))
 
 pub returns : goal.returns
 returns c =
     let fq : FitsSigned w128 c.args.limit = c.ranges.limit in
     let fm : FitsSigned w128 c.in_ok-more.more = search rules in
-    let told = simp to_z-of_z at c.in_ok-more.ensures in
+    let told = rw c.all.ensures at (simp to_z-of_z at c.in_ok-more.ensures) in
     simp to_z-of_z (told (record { demands = c.args.aim.now.demands.now; lists = c.args.self.now.demand.lists; capacities = c.args.aim.now.capacities.now }) (met (goal.at.returns c).In_ok-find_met))

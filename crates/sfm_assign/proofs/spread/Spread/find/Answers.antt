@@ -19,7 +19,7 @@ led c =
     let other = c.args.link.other in
     let lo = c.requires.own in
     let same = c.requires.told.same in
-    let who = get_or_read whos own c.index-f.result.now lo c.index-f.ensures 0 in
+    let who = get_or_read whos own c.index-f.result.now lo (rw c.all.ensures at c.index-f.ensures) 0 in
     let owned = c.requires.told.cells.owned own lo in
     let v : ℤ = c.index.result.now in
     let fv : FitsSigned w128 v = search rules in
@@ -87,7 +87,7 @@ returns-in_ok-joined-in-Some c =
 
 pub returns-then-contains : goal.returns-then-contains
 returns-then-contains c =
-    let who = get_or_read c.args.shares.now.cells.whos.items c.args.link.own c.index-f.result.now c.requires.own c.index-f.ensures 0 in
+    let who = get_or_read c.args.shares.now.cells.whos.items c.args.link.own c.index-f.result.now c.requires.own (rw c.all.ensures at c.index-f.ensures) 0 in
     let self = c.args.self.now in
     record {
       from = refl;
@@ -115,7 +115,7 @@ enter-requires c =
     omega (arith, below, places)
 
 pub index-f-requires : goal.index-f-requires
-index-f-requires c = omega (arith, c.requires.own, c.args.shares.now.cells.whos.ok.0)
+index-f-requires c = rw c.all.ensures (omega (arith, c.requires.own, c.args.shares.now.cells.whos.ok.0))
 
 pub index-requires : goal.index-requires
 index-requires c = omega (arith, c.requires.own, c.requires.told.same, c.args.shares.now.y.ok.0)
@@ -124,13 +124,13 @@ pub bounds-answers-f : goal.bounds-answers-f
 bounds-answers-f c =
     let own = c.args.link.own in
     let lo = c.requires.own in
-    rw (get_or_read c.args.shares.now.cells.whos.items own c.index-f.result.now lo c.index-f.ensures 0) (c.requires.told.cells.owned own lo)
+    rw (get_or_read c.args.shares.now.cells.whos.items own c.index-f.result.now lo (rw c.all.ensures at c.index-f.ensures) 0) (c.requires.told.cells.owned own lo)
 
 pub offset_bounds-answers-f : goal.offset_bounds-answers-f
 offset_bounds-answers-f c =
     let own = c.args.link.own in
     let lo = c.requires.own in
-    let who = get_or_read c.args.shares.now.cells.whos.items own c.index-f.result.now lo c.index-f.ensures 0 in
+    let who = get_or_read c.args.shares.now.cells.whos.items own c.index-f.result.now lo (rw c.all.ensures at c.index-f.ensures) 0 in
     let owned = c.requires.told.cells.owned own lo in
     let l : c.index-f.result.now < length c.args.answers.now = omega (arith, who, owned) in
     omega (arith, l)

@@ -13,12 +13,12 @@ find-requires c =
     let inv = c.loop-own.invariant in
     let same = r.told.cells.same in
     let lc = r.cell in
-    let (lt, mine) = pass_here c.args.shares.now.cells.slots_grouped c.list-own-items.ensures c.loop-own-test.true in
+    let (lt, mine) = pass_here c.args.shares.now.cells.slots_grouped (rw c.all-cells.ensures at c.list-own-items.ensures) c.loop-own-test.true in
     record {
       told = r.told;
       own = omega (arith, lt, same);
       other = lc;
-      shared = mine ∙ get_or_read c.args.shares.now.cells.slots.items c.args.e c.index-s.result.now (omega (arith, lc, same)) c.index-s.ensures 0;
+      shared = mine ∙ get_or_read c.args.shares.now.cells.slots.items c.args.e c.index-s.result.now (omega (arith, lc, same)) (rw c.all-cells.ensures at c.index-s.ensures) 0;
       found = inv.wider.kept (label_at c.args.shares.now.cells.whos.items c.args.e) r.found;
       spread = inv.spread;
     }
@@ -65,8 +65,8 @@ returns-clause-spread c =
     let inv = c.loop-own.invariant in
     let le = c.requires.cell in
     let same = c.requires.told.cells.same in
-    let slot = get_or_read slots c.args.e s (omega (arith, le, same)) c.index-s.ensures 0 in
-    let all = pass_done c.args.shares.now.cells.slots_grouped c.list-own-items.ensures c.loop-own-test.false inv.passed in
+    let slot = get_or_read slots c.args.e s (omega (arith, le, same)) (rw c.all-cells.ensures at c.index-s.ensures) 0 in
+    let all = pass_done c.args.shares.now.cells.slots_grouped (rw c.all-cells.ensures at c.list-own-items.ensures) c.loop-own-test.false inv.passed in
     rw c.insert.ensures (spread_marked (length c.args.answers.now) c.args.shares.now.cells.whos.items slots c.args.shares.now.y.items c.args.rooms.now self.from self.found self.marks self.queue.items self.next inv.spread s (rw slot c.requires.full) (λ f lf is some. all f (omega (arith, lf, same)) is some))
 
 pub loop-own-init : goal.loop-own-init

@@ -11,14 +11,14 @@ use Rattle.sfm_assign.proofs.spread.Spread.visit.Goals as goal
 
 -- the slot of the cell
 slot : (c : After-index-s) → c.index-s.result.now ≡ label_at c.args.shares.now.cells.slots.items c.args.e
-slot c = let lt = c.requires.cell in let same = c.requires.told.cells.same in get_or_read c.args.shares.now.cells.slots.items c.args.e c.index-s.result.now (omega (arith, lt, same)) c.index-s.ensures 0
+slot c = let lt = c.requires.cell in let same = c.requires.told.cells.same in get_or_read c.args.shares.now.cells.slots.items c.args.e c.index-s.result.now (omega (arith, lt, same)) (rw c.all.ensures at c.index-s.ensures) 0
 
 pub index-s-requires : goal.index-s-requires
 index-s-requires c =
     let lt = c.requires.cell in
     let same = c.requires.told.cells.same in
     let ok = c.args.shares.now.cells.slots.ok.0 in
-    omega (arith, lt, same, ok)
+    rw c.all.ensures (omega (arith, lt, same, ok))
 
 pub offset_bounds-rooms-s : goal.offset_bounds-rooms-s
 offset_bounds-rooms-s c =
