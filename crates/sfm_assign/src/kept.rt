@@ -426,7 +426,6 @@ impl Kept {
     /// Makes room for what is told of each demand.
     fn widen(&mut self) -> Result<(), Memory>
         ensures same { self.new.demand ≡ self.old.demand }
-        ensures counted { self.new.beside.counted ≡ self.old.beside.counted }
         ensures places { OnOk result (length self.new.beside.answers
             ≡ length self.new.demand.demands) }
     {
@@ -440,7 +439,6 @@ impl Kept {
         requires places { length self.old.beside.answers ≡ length self.old.demand.demands }
         requires room_for_answer { length to.old ≡ length self.old.demand.demands }
         ensures same { self.new.demand ≡ self.old.demand }
-        ensures counted { self.new.beside.counted ≡ self.old.beside.counted }
         ensures whos { self.new.shares.cells.whos.items ≡ self.old.shares.cells.whos.items }
         ensures slots { self.new.shares.cells.slots.items ≡ self.old.shares.cells.slots.items }
         ensures amounts { self.new.shares.y.items ≡ self.old.shares.y.items }
@@ -463,23 +461,24 @@ impl Kept {
     }
 
     /// Writes the demands that can lend to u over what was gathered.
-    fn write_lenders(&self, room: bool, u: usize, to: &mut Set)
-        requires place { u < length self.now.demand.demands }
-        requires counted { IsTrue self.now.beside.counted }
-        requires room_for_answer { length to.old ≡ length self.now.demand.demands }
+    fn write_lenders(&mut self, room: bool, u: usize, to: &mut Set)
+        requires place { u < length self.old.demand.demands }
+        requires room_for_answer { length to.old ≡ length self.old.demand.demands }
         requires led { MatchBool room
-            (LeadsToRoom self.now.shares.cells.whos.items self.now.shares.cells.slots.items
-            self.now.shares.y.items self.now.rooms.items u)
-            (AreLedTo (length self.now.demand.demands) self.now.shares.cells.whos.items
-            self.now.shares.cells.slots.items self.now.shares.y.items self.now.rooms.items u
+            (LeadsToRoom self.old.shares.cells.whos.items self.old.shares.cells.slots.items
+            self.old.shares.y.items self.old.rooms.items u)
+            (AreLedTo (length self.old.demand.demands) self.old.shares.cells.whos.items
+            self.old.shares.cells.slots.items self.old.shares.y.items self.old.rooms.items u
             (slice_set to.old u true)) }
+        ensures same { self.new.demand ≡ self.old.demand }
         ensures places { length to.new ≡ length to.old }
         ensures reached { (v : ℕ) → v < length to.new → Has to.new v
-            ↔ IsLender self.now.demand.demands self.now.demand.lists self.now.demand.capacities u
+            ↔ IsLender self.old.demand.demands self.old.demand.lists self.old.demand.capacities u
             v }
     {
         let _sound = self.demand.demands();
         if room {
+            self.count_asking();
             write_others(&self.beside.asking, u, to);
             return;
         }
@@ -501,7 +500,6 @@ impl Kept {
             ↔ IsLender self.old.demand.demands self.old.demand.lists self.old.demand.capacities u
             v) }
     {
-        self.count_asking();
         self.widen()?;
         let room = self.gather(alloc, u, to)?;
         self.write_lenders(room, u, to);
