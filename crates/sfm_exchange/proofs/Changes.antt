@@ -1,12 +1,13 @@
 -- Which rows of a term an exchange has changed, and how.
 use Rattle.std.proofs.Common.{◌≡◌, ◌≢◌, ◌↔◌, inl, refl, ⊎_elim, ℕ, ◌<◌, List, length, get_or, set, ℤ, sym, ◌∙◌, arith, get_or-set_other}
+use Rattle.std.proofs.lemmas.Bool.{cases_eq}
 use Rattle.sfm_spec.specs.Terms.{SetFunction}
 use Rattle.sfm_reach.specs.declared.bits.Bits.{Bits}
 use Rattle.sfm_exchange.specs.declared.renewing.Changes.{Changes}
 use Rattle.sfm_reach.specs.Bits.{bit_in, blank_bits, set_at}
 use Rattle.sfm_reach.specs.Reach.{IsRow}
 use Rattle.sfm_exchange.specs.Renewed.{AreAsked, AreChanges, AreJoined}
-use Rattle.sfm_exchange.proofs.AtOnce.{others_kept}
+use Rattle.sfm_exchange.proofs.AtOnce.{others_kept, told_found}
 use Rattle.sfm_exchange.proofs.Claiming.{IsRenewing, found_inside, others_stay}
 
 module _ {places : List ℕ} {f : SetFunction} {s t : ℕ} {x y : List ℤ} {claimed found : Bits} {rows : List Bits} (r : IsRenewing places f s t x y claimed found rows) (of_s : Bits) (hs : IsRow places f y s of_s) (changes : Changes) where
@@ -28,11 +29,15 @@ module _ {places : List ℕ} {f : SetFunction} {s t : ℕ} {x y : List ℤ} {cla
         let (v, lv, ne, is) = (r.claims.claims u lu).inside t bit in
         ne (r.raising.distinct v u lv lu (is ∙ same))
 
-  -- rows that are asked may be any
-  pub changes_anew : (nothing : (e : ℕ) → bit_in claimed e ≢ 1) (others : Bits) (out : bit_in others (get_or places s 0) ≡ 0) (same : (e : ℕ) → e ≢ get_or places s 0 → bit_in others e ≡ bit_in found e) (mid : List Bits)
-      → AreAsked places f y others (length places) (set rows s of_s) mid → ((e : ℕ) → bit_in changes.grown e ≡ 0) → changes.anew ≡ found → AreChanges places changes rows mid
-  changes_anew nothing others out same mid asked none anew = record {
-    inside = λ e. ⊎_elim (λ one. absurd (let z = none e in omega (arith, z, one))) (λ one. found_inside r e (rw anew at one));
+  -- rows that are asked and told may be any, and so may that of s
+  pub changes_anew : (nothing : (e : ℕ) → bit_in claimed e ≢ 1) (others : Bits) (out : bit_in others (get_or places s 0) ≡ 0) (same : (e : ℕ) → e ≢ get_or places s 0 → bit_in others e ≡ bit_in found e) (told : Bits) (mid : List Bits)
+      → AreAsked places f y others told (length places) (set rows s of_s) mid → ((e : ℕ) → bit_in changes.grown e ≡ 0) → bit_in changes.anew (get_or places s 0) ≡ 1 → ((e : ℕ) → e ≢ get_or places s 0 → bit_in changes.anew e ≡ bit_in told e)
+      → AreChanges places changes rows mid
+  changes_anew nothing others out same told mid asked none put rest = record {
+    inside = λ e. ⊎_elim (λ one. absurd (let z = none e in omega (arith, z, one)))
+        (λ one. ⊎_elim (λ is. (s, r.raising.raised, sym is)) (λ ne. found_inside r e (told_found r nothing of_s hs others out same told mid asked e (sym (rest e ne) ∙ one))) (cases_eq e (get_or places s 0)));
     grown = λ u t lu one bit. absurd (let z = none (get_or places u 0) in omega (arith, z, one));
-    others = λ u lu rest not. others_kept r nothing of_s hs others out same mid asked u lu (λ has. not (rw anew has));
+    others = λ u lu out_of not.
+        let ne : get_or places u 0 ≢ get_or places s 0 = λ is. not (rw is put) in
+        others_kept r nothing of_s hs others out same told mid asked u lu (λ is. ne (rw is refl)) (λ has. not (rest (get_or places u 0) ne ∙ has));
   }

@@ -44,11 +44,12 @@ pub record AreJoined (places : List ℕ) (changed : Bits) (more : Bits) (to k : 
   pub others : (u : ℕ) → u < length places → bit_in changed (slice_index_or places u 0) ≢ 1 → set_at after u ≡ set_at before u
   pub ahead : (u : ℕ) → k ≤ u → set_at after u ≡ set_at before u
 
--- of the first k rows those whose ground places are in the set are those of the base x; all others stay
-pub record AreAsked (places : List ℕ) (f : SetFunction) (x : List ℤ) (changed : Bits) (k : ℕ) (before after : List Bits) : Type 0 where
+-- of the first k rows those whose ground places are in the set are those of the base x; those that are not told stay, and none is told whose ground place is not in the set
+pub record AreAsked (places : List ℕ) (f : SetFunction) (x : List ℤ) (changed told : Bits) (k : ℕ) (before after : List Bits) : Type 0 where
   pub count : length after ≡ length before
   pub asked : (u : ℕ) → u < k → bit_in changed (slice_index_or places u 0) ≡ 1 → IsRow places f x u (set_at after u)
-  pub others : (u : ℕ) → u < length places → bit_in changed (slice_index_or places u 0) ≢ 1 → set_at after u ≡ set_at before u
+  pub inside : (e : ℕ) → bit_in told e ≡ 1 → bit_in changed e ≡ 1
+  pub others : (u : ℕ) → u < length places → bit_in told (slice_index_or places u 0) ≢ 1 → set_at after u ≡ set_at before u
 
 -- the rows of some places have taken in one row and the place that was raised, and then the row of that is put in
 pub record AreTakenIn (places : List ℕ) (changed more : Bits) (raised : Raised) (before after : List Bits) : Type 0 where

@@ -6,9 +6,9 @@
 // it. Where s depends on a place that depends on it, the two have the same least tight set, so the row is that of s, and neither
 // asked nor claimed. A term whose rows are cheap, or cheaper one after another, is asked for the others at once, so none of its rows
 // is ever claimed.
-ghost use Rattle.std.specs.Prelude.{◌≡◌, ◌≢◌, ◌↔◌, ◌⊎◌, IsTrue, true, ◌<◌, ◌-◌, max, ℕ, length, IfOk, OnOk, slice_index_or};
+ghost use Rattle.std.specs.Prelude.{◌≡◌, ◌≢◌, ◌↔◌, ◌⊎◌, IsTrue, true, ◌<◌, ◌-◌, max, ℕ, length, IfOk, OnOk, MatchBool, slice_index_or, slice_set};
 ghost use Rattle.sfm_spec.specs.{Sets.{IsPlaced}, Rows.{Depends}, Terms.{times}};
-ghost use Rattle.sfm_reach.specs.{Based.{IsPlacedBase}, Bits.{bit_in}, Image.{IsImage}, Reach.{IsRow}};
+ghost use Rattle.sfm_reach.specs.{Based.{IsPlacedBase}, Bits.{bit_in, set_at}, Image.{IsImage}, Reach.{IsRow}};
 ghost use Rattle.sfm_exchange.specs.Renewed.{AreAsked, AreClaimsBefore, AreDepending, AreJoined, AreRenewed, AreShared, AreTakenIn, IsJoined, IsRaised};
 
 use crate::path::Hop;
@@ -224,8 +224,21 @@ fn row_after<T: Term>(
     row_beside(alloc, at, note, &lead, image)
 }
 
+// Puts a row in place of that of the place u, where the two differ; tells whether they do.
+fn put_row(rows: &mut BitRows, u: usize, row: Bits) -> bool
+    requires { u < length rows.old }
+    ensures { MatchBool result (rows.new ≡ slice_set rows.old u row)
+        ((rows.new ≡ rows.old) × ((e : ℕ) → bit_in (set_at rows.old u) e ≡ bit_in row e)) }
+{
+    if rows.as_slice()[u].differing(&row).is_empty() {
+        return false;
+    }
+    rows.set(u, row);
+    true
+}
+
 // Asks for the rows of some places, each of which depends on the place that was raised, by a note that fits the base, which fits
-// it still.
+// it still; tells those whose rows are others than before.
 fn ask_rows<T: Term>(
     alloc: Global,
     at: &Based<'_, '_, T>,
@@ -233,7 +246,7 @@ fn ask_rows<T: Term>(
     raised: &Raised,
     changed: &Bits,
     rows: &mut BitRows,
-) -> Result<(), Memory>
+) -> Result<Bits, Memory>
     requires based { IsPlacedBase T.places T.value_of T.size_of at.now.term.now at.now.base.q
         at.now.base.x.now }
     requires noted { T.fits at.now.term.now note.old at.now.base.q at.now.base.x.now }
@@ -244,21 +257,24 @@ fn ask_rows<T: Term>(
         → Depends (times at.now.base.q (T.value_of at.now.term.now)) at.now.base.x.now u
         raised.now.local }
     requires rows { length rows.old ≡ length at.now.base.x.now }
-    ensures asked { OnOk result (AreAsked (T.places at.now.term.now)
-        (times at.now.base.q (T.value_of at.now.term.now)) at.now.base.x.now changed.now
+    ensures asked { IfOk result (λ r. AreAsked (T.places at.now.term.now)
+        (times at.now.base.q (T.value_of at.now.term.now)) at.now.base.x.now changed.now r
         (length (T.places at.now.term.now)) rows.old rows.new) }
     ensures noted { OnOk result (T.fits at.now.term.now note.new at.now.base.q at.now.base.x.now) }
 {
     let places = at.term.elements();
     let mut image = rows.lend_image(alloc, places)?;
+    let mut anew = no_bits();
     for u in 0..places.len() {
         if changed.contains(places[u]) {
             let row = row_after(alloc, at, note, raised, u, &mut image)?;
-            rows.set(u, row);
+            if put_row(rows, u, row) {
+                anew.insert(places[u]);
+            }
         }
     }
     rows.keep_image(image);
-    Ok(())
+    Ok(anew)
 }
 
 /// Brings the rows of a term up to the base that came by the exchange of a step, which raises its first place and lowers its
@@ -302,10 +318,11 @@ pub fn renew_rows<T: Term>(
         rows.set(hop.u, of_s);
         let mut others = changed;
         others.remove(to);
-        ask_rows(alloc, at, note, &raised, &others, rows)?;
+        let mut anew = ask_rows(alloc, at, note, &raised, &others, rows)?;
+        anew.insert(to);
         return Ok(Changes {
             grown: no_bits(),
-            anew: changed,
+            anew,
         });
     }
     take_in_raised(places, &changed, &before, &raised, rows);

@@ -2,8 +2,8 @@ use Rattle.std.proofs.Common.{◌≡◌, ◌≢◌, ◌<◌, false, get_or, leng
 use Rattle.std.proofs.lemmas.Bool.{both_ways}
 use Rattle.sfm_spec.specs.Terms.{times}
 use Rattle.sfm_reach.specs.Bits.{bit_in}
-use Rattle.sfm_exchange.proofs.AtOnce.{asked_more, asked_past}
-use Rattle.sfm_exchange.proofs.renewing.ask_rows.Goals.{then-contains+in_ok-row, else-contains}
+use Rattle.sfm_exchange.proofs.AtOnce.{asked_more, asked_past, asked_same}
+use Rattle.sfm_exchange.proofs.renewing.ask_rows.Goals.{then-contains+in_ok-row+then-put_row, then-contains+in_ok-row+else-put_row, else-contains}
 use Rattle.sfm_exchange.proofs.renewing.ask_rows.Goals as goal
 
 pub row_after-requires-clause-leads : goal.row_after-requires-clause-leads
@@ -22,12 +22,17 @@ loop-u-preserved g c =
     let inv = c.loop-u.invariant in
     let l : c.loop-u.u < length c.loop-u.rows = omega (arith, inv.0.count, ap length c.lend_image.ensures.same, c.requires.rows, c.requires.based.based.entries, ap length shown, c.loop-u-test.true) in
     elim c.if-contains.branch [
-      | then-contains+in_ok-row w ↦
+      | then-contains+in_ok-row+then-put_row w ↦
           let one = rw shown at (w.if-contains.ensures.0 refl) in
-          (rw (w.rows-is, w.set.ensures) (asked_more places f at.base.x.now c.args.changed.now c.loop-u.u c.lend_image.new.self c.loop-u.rows w.in_ok-row.row inv.0 l one w.in_ok-row.ensures.row), rw w.note-is w.in_ok-row.ensures.noted, rw w.image-is w.in_ok-row.ensures.image)
+          let put = rw (w.if-put_row.true) at w.put_row.ensures in
+          let told = rw shown at w.insert.ensures in
+          (rw (w.rows-is, w.anew-is, put) (asked_more places f at.base.x.now c.args.changed.now c.loop-u.anew _ c.loop-u.u c.lend_image.new.self c.loop-u.rows w.in_ok-row.row inv.0 l one w.in_ok-row.ensures.row told.put told.others), rw w.note-is w.in_ok-row.ensures.noted, rw w.image-is w.in_ok-row.ensures.image)
+      | then-contains+in_ok-row+else-put_row w ↦
+          let (rows, same) = rw (w.if-put_row.false) at w.put_row.ensures in
+          (rw (w.rows-is, w.anew-is, rows) (asked_same places f at.base.x.now c.args.changed.now c.loop-u.anew c.loop-u.u c.lend_image.new.self c.loop-u.rows w.in_ok-row.row inv.0 w.in_ok-row.ensures.row same), rw w.note-is w.in_ok-row.ensures.noted, rw w.image-is w.in_ok-row.ensures.image)
       | else-contains w ↦
           let none : bit_in c.args.changed.now (get_or places c.loop-u.u 0) ≢ 1 = λ one. both_ways false refl (w.if-contains.ensures.1 (rw shown one)) in
-          (rw w.rows-is (asked_past places f at.base.x.now c.args.changed.now c.loop-u.u c.lend_image.new.self c.loop-u.rows inv.0 none), rw w.note-is inv.1, rw w.image-is inv.2)
+          (rw (w.rows-is, w.anew-is) (asked_past places f at.base.x.now c.args.changed.now c.loop-u.anew c.loop-u.u c.lend_image.new.self c.loop-u.rows inv.0 none), rw w.note-is inv.1, rw w.image-is inv.2)
     ]
 
 pub returns-clause-asked : goal.returns-clause-asked
@@ -44,10 +49,10 @@ pub lend_image-requires : goal.lend_image-requires
 lend_image-requires g c = omega (arith, c.requires.rows, c.requires.based.based.entries, ap length c.elements-places.ensures)
 
 pub loop-u-init : goal.loop-u-init
-loop-u-init g c = (record { count = refl; asked = λ u l one. absurd (omega (arith, l)); others = λ u l none. refl }, c.requires.noted, rw c.elements-places.ensures at c.in_ok-image.ensures.image)
+loop-u-init g c = (record { count = refl; asked = λ u l one. absurd (omega (arith, l)); inside = λ e one. absurd (let z = c.no_bits-anew.ensures e in omega (arith, z, one)); others = λ u l none. refl }, c.requires.noted, rw c.elements-places.ensures at c.in_ok-image.ensures.image)
 
 pub row_after-requires-clause-from : goal.row_after-requires-clause-from
 row_after-requires-clause-from g c = omega (arith, c.requires.based.based.entries, ap length c.elements-places.ensures, c.loop-u-test.true)
 
-pub set-requires : goal.set-requires
-set-requires g c = omega (arith, c.loop-u.invariant.0.count, ap length c.lend_image.ensures.same, c.requires.rows, c.requires.based.based.entries, ap length c.elements-places.ensures, c.loop-u-test.true)
+pub put_row-requires : goal.put_row-requires
+put_row-requires g c = omega (arith, c.loop-u.invariant.0.count, ap length c.lend_image.ensures.same, c.requires.rows, c.requires.based.based.entries, ap length c.elements-places.ensures, c.loop-u-test.true)

@@ -59,10 +59,11 @@ returns-then-asks_at_once-clause-raised g c =
     let hs = c.in_ok-of_s.ensures in
     let nothing = c.asks_at_once.ensures c.if-asks_at_once.true in
     let out = rw c.elements-places.ensures at c.remove.ensures in
-    let asked = rw (c.set.ensures, hs.same) at c.in_ok-ask_rows.ensures.asked in
+    let asked = rw (c.set.ensures, hs.same) at c.in_ok-anew.ensures.asked in
+    let put = rw c.elements-places.ensures at c.insert.ensures in
     record {
-      claims = exchange_asked r nothing _ hs.row _ out.out out.others _ asked;
-      changes = changes_anew r _ hs.row _ nothing _ out.out out.others _ asked c.no_bits.ensures refl;
+      claims = exchange_asked r nothing _ hs.row _ out.out out.others _ _ asked;
+      changes = changes_anew r _ hs.row _ nothing _ out.out out.others _ _ asked c.no_bits.ensures put.put put.others;
     }
 
 pub returns-clause-raised : goal.returns-clause-raised
@@ -144,7 +145,7 @@ pub returns-then-contains-clause-rows : goal.returns-then-contains-clause-rows
 returns-then-contains-clause-rows g c = c.take_in_raised.ensures.count ∙ ap length c.in_ok-of_s.ensures.same
 
 pub returns-then-asks_at_once-clause-rows : goal.returns-then-asks_at_once-clause-rows
-returns-then-asks_at_once-clause-rows g c = c.in_ok-ask_rows.ensures.asked.count ∙ (ap length c.set.ensures ∙ (length-set c.row_by.new.rows c.args.hop.u c.in_ok-of_s.of_s ∙ ap length c.in_ok-of_s.ensures.same))
+returns-then-asks_at_once-clause-rows g c = c.in_ok-anew.ensures.asked.count ∙ (ap length c.set.ensures ∙ (length-set c.row_by.new.rows c.args.hop.u c.in_ok-of_s.of_s ∙ ap length c.in_ok-of_s.ensures.same))
 
 pub returns-clause-rows : goal.returns-clause-rows
 returns-clause-rows g c = c.settle_shared.ensures.rows.count ∙ (c.take_in_raised-2.ensures.count ∙ ap length c.in_ok-of_s.ensures.same)
@@ -160,3 +161,6 @@ set-requires g c = rw (c.in_ok-of_s.ensures.same, c.requires.rows) c.requires.be
 
 pub remove-requires : goal.remove-requires
 remove-requires g c = let b = c.requires.based in rw c.elements-places.ensures (b.placed.below c.args.hop.u (rw (← b.based.entries) c.requires.before.pair.from))
+
+pub insert-requires : goal.insert-requires
+insert-requires g c = let b = c.requires.based in rw c.elements-places.ensures (b.placed.below c.args.hop.u (rw (← b.based.entries) c.requires.before.pair.from))
