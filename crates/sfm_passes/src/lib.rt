@@ -16,3 +16,4 @@ mod token_test;
 pub use between::Separator;
 pub use long_line::{early_reason, early_term};
 pub use passes::{are_names_in, has_repeat_in, has_separator_in};
+pub use token_test::{is_known, is_pair, is_pair_element};

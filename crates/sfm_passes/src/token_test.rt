@@ -43,7 +43,7 @@ pub fn is_number_of(instance: &Instance, word: TermWord, text: &[u8]) -> bool
 }
 
 /// Whether a text names an element.
-fn is_known(instance: &Instance, text: &[u8]) -> bool
+pub fn is_known(instance: &Instance, text: &[u8]) -> bool
     ensures { MatchBool result (IsKnown instance.now.names text.now)
         (IsKnown instance.now.names text.now → ⊥) }
 {
@@ -54,7 +54,7 @@ fn is_known(instance: &Instance, text: &[u8]) -> bool
 }
 
 /// Whether a token is a pair.
-fn is_pair(token: &[u8]) -> bool
+pub fn is_pair(token: &[u8]) -> bool
     ensures { MatchBool result
         ((pair : List ℕ × List ℕ) × IsPairToken token.now pair)
         (((pair : List ℕ × List ℕ) × IsPairToken token.now pair) → ⊥) }
@@ -80,7 +80,7 @@ fn is_pair_number(instance: &Instance, token: &[u8]) -> bool
 }
 
 /// Whether a token is a pair with an element.
-fn is_pair_element(instance: &Instance, token: &[u8]) -> bool
+pub fn is_pair_element(instance: &Instance, token: &[u8]) -> bool
     ensures { MatchBool result
         ((pair : List ℕ × List ℕ) × IsPairToken token.now pair × IsKnown instance.now.names pair.0)
         (((pair : List ℕ × List ℕ) × IsPairToken token.now pair × IsKnown instance.now.names pair.0)

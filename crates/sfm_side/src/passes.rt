@@ -1,13 +1,14 @@
 // Passes over the tokens of a line beside an instance. A line that is refused may have millions of tokens, so they are looked
 // at one after another, once for each thing that they are tried for, and no list of them is made.
 ghost use Rattle.std.specs.{Prelude.{◌≡◌, ◌↔◌, ℕ, List, ℤ, Any, Some, MatchBool}, List.{All}};
-ghost use Rattle.sfm_lines.specs.{Lines.{tokens_of}, Parts.{IsPairToken}, ReadParts.{IsKnown}};
+ghost use Rattle.sfm_lines.specs.{Lines.{tokens_of}, Parts.{IsPairToken}};
 ghost use Rattle.sfm_side.specs.{Sizes.{IsSize}, Passes.{Passes}};
 
 use sfm_base::read_number;
 use sfm_kind::Instance;
 use sfm_lines::pair::cut_pair;
 use sfm_lines::tokens::first_token;
+use sfm_passes::{is_known, is_pair, is_pair_element};
 
 /// The greatest size.
 pub const MOST_SIZE: i128 = 1_000_000;
@@ -39,29 +40,6 @@ pub fn size_for(text: &[u8]) -> Option<i128>
     }
 }
 
-/// Whether a text names an element.
-fn is_known(instance: &Instance, text: &[u8]) -> bool
-    ensures { MatchBool result (IsKnown instance.now.names text.now)
-        (IsKnown instance.now.names text.now → ⊥) }
-{
-    match instance.place_of(text) {
-        Some(_) => true,
-        None => false,
-    }
-}
-
-/// Whether a token is a pair.
-fn is_pair(token: &[u8]) -> bool
-    ensures { MatchBool result
-        ((pair : List ℕ × List ℕ) × IsPairToken token.now pair)
-        (((pair : List ℕ × List ℕ) × IsPairToken token.now pair) → ⊥) }
-{
-    match cut_pair(token) {
-        Some(_) => true,
-        None => false,
-    }
-}
-
 /// Whether a text is a size.
 fn is_size(text: &[u8]) -> bool
     ensures { MatchBool result
@@ -84,19 +62,6 @@ fn is_pair_size(token: &[u8]) -> bool
 {
     match cut_pair(token) {
         Some((_, number)) => is_size(number),
-        None => false,
-    }
-}
-
-/// Whether a token is a pair with an element.
-fn is_pair_element(instance: &Instance, token: &[u8]) -> bool
-    ensures { MatchBool result
-        ((pair : List ℕ × List ℕ) × IsPairToken token.now pair × IsKnown instance.now.names pair.0)
-        (((pair : List ℕ × List ℕ) × IsPairToken token.now pair × IsKnown instance.now.names pair.0)
-        → ⊥) }
-{
-    match cut_pair(token) {
-        Some((element, _)) => is_known(instance, element),
         None => false,
     }
 }
