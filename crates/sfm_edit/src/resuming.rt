@@ -1,9 +1,9 @@
 // The minimum of an edited instance, sought from the bases that proved the minimum before the edits: the walks begin at the old
 // base of each kept term, so that few of them are left where the edits are few. What is found is what computing afresh finds, as
 // any bases that prove a minimum prove the least one.
-ghost use Rattle.std.specs.{Prelude.{◌≡◌, ◌+◌, ◌<◌, ◌≤◌, ◌^◌, ℕ, ℤ, List, length, pos, replicate, slice_index_or, Option, Some, ◌≤ℤ◌, IfOk}, List.{All}};
-ghost use Rattle.sfm_spec.specs.{Bounds.{IsEntry}, Families.{meanings, even_shift, rest_at, AreBases, Prove}, Walks.{Step, Joins, few_walks}};
-ghost use Rattle.sfm_walk.specs.Counted.{IsCounted};
+ghost use Rattle.std.specs.{Prelude.{◌≡◌, ◌+◌, ◌<◌, ◌≤◌, ◌^◌, ℕ, ℤ, List, length, pos, replicate, Option, Some, ◌≤ℤ◌, IfOk}, List.{All}};
+ghost use Rattle.sfm_spec.specs.{Families.{meanings, even_shift}, Walks.{few_walks}};
+ghost use Rattle.sfm_walk.specs.{Counted.{IsCounted}, Optimum.{IsOptimum}};
 ghost use Rattle.sfm_kind.specs.{Kinds.{kind_places, kind_value, kind_size}};
 ghost use Rattle.sfm_edit.specs.Resuming.{first_of, firsts_of, HasBaseAt, AreOldBases};
 
@@ -65,20 +65,10 @@ pub fn resume(
     requires room { steps.old < 2 ^ 63 }
     requires count { length edited.now.kept ≡ length edited.now.instance.terms }
     requires old { AreOldBases edited.now.instance.terms edited.now.kept rows.now }
-    ensures bases { IfOk result (λ r. AreBases (pos 1)
-        (meanings kind_places kind_value edited.now.instance.terms) r.bases) }
-    ensures small { IfOk result (λ r. All (λ x. All IsEntry x) r.bases) }
-    ensures rest { IfOk result (λ r. (length r.z ≡ length edited.now.instance.names) × ((e : ℕ)
-        → e < length edited.now.instance.names → slice_index_or r.z e (pos 0)
-        ≡ rest_at (meanings kind_places kind_value edited.now.instance.terms) r.bases
-        (even_shift (length edited.now.instance.names) (pos 0)) e)) }
-    ensures ends { IfOk result (λ r. (first : ℕ) (steps : List Step)
-        → Joins (meanings kind_places kind_value edited.now.instance.terms) (pos 1)
-        (even_shift (length edited.now.instance.names) (pos 0)) r.bases first steps → ⊥) }
-    ensures proves { IfOk result (λ r.
-        Prove (meanings kind_places kind_value edited.now.instance.terms)
+    ensures optimum { IfOk result
+        (IsOptimum (meanings kind_places kind_value edited.now.instance.terms)
         (length edited.now.instance.names) (pos 1)
-        (even_shift (length edited.now.instance.names) (pos 0)) r.bases) }
+        (even_shift (length edited.now.instance.names) (pos 0))) }
     ensures counted { IfOk result (λ r.
         IsCounted (meanings kind_places kind_value edited.now.instance.terms)
         (length edited.now.instance.names) (pos 1)

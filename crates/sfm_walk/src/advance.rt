@@ -3,9 +3,9 @@
 // (Schrijver, Combinatorial Optimization, section 45; Fujishige, Submodular Functions and Optimization, section 4). It raises
 // the potential of any lower bounds on distances and on least steps too, so walks are few; and an entry changes by no more
 // than that sum rises, so what entries are at first and how far below 0 that sum is bound all that they come to.
-ghost use Rattle.std.specs.{Prelude.{◌≡◌, ◌+◌, ◌*◌, ◌^◌, ◌≢◌, ◌<◌, ◌≤◌, ℕ, List, pos, neg_ℤ, ◌≤ℤ◌, length, OnOk, IfOk, slice_index_or}, List.{All}};
-ghost use Rattle.sfm_spec.specs.{Sets.{magnitudes}, Bounds.{IsAtMost, IsEntry}, Families.{meanings, rest_at, deficit, AreBases, Prove}, Terms.{exchanged}, Walks.{Step, Joins, few_walks, last_of}};
-ghost use Rattle.sfm_walk.specs.{Counted.{IsCounted}, Labels.{AreLabels}, Run.{AreAdvanced, IsLeastWalk, IsRunAt}, Spread.{AreSpread}};
+ghost use Rattle.std.specs.{Prelude.{◌≡◌, ◌+◌, ◌*◌, ◌^◌, ◌≢◌, ◌<◌, ◌≤◌, pos, neg_ℤ, ◌≤ℤ◌, length, OnOk, IfOk, slice_index_or}, List.{All}};
+ghost use Rattle.sfm_spec.specs.{Sets.{magnitudes}, Bounds.{IsAtMost}, Families.{meanings, rest_at, deficit}, Terms.{exchanged}, Walks.{few_walks, last_of}};
+ghost use Rattle.sfm_walk.specs.{Labels.{AreLabels}, Optimum.{IsImproved}, Run.{AreAdvanced, IsLeastWalk, IsRunAt}};
 ghost use Rattle.sfm_exchange.specs.{Graph.{IsClaimed}, Hops.{steps_of}, Levels.{depth_of}, Signs.{AreMoved, AreSigns}};
 
 use crate::rest::{most_of, move_rest, rest_from};
@@ -37,22 +37,8 @@ pub fn improve<T: Term>(
     requires shifts { magnitudes shift.now ≤ℤ pos (10 ^ 27) }
     requires graph { IsClaimed T.Term terms.now (length shift.now) q graph.old }
     requires small { All (λ x. All (IsAtMost (10 ^ 25)) x) graph.old.bases }
-    ensures graph { OnOk result (IsClaimed T.Term terms.now (length shift.now) q graph.new) }
-    ensures bases { OnOk result (AreBases q (meanings T.places T.value_of terms.now)
-        graph.new.bases) }
-    ensures small { OnOk result (All (λ x. All IsEntry x) graph.new.bases) }
-    ensures rest { IfOk result (λ r. (length r ≡ length shift.now)
-        × ((e : ℕ) → e < length shift.now → slice_index_or r e (pos 0)
-        ≡ rest_at (meanings T.places T.value_of terms.now) graph.new.bases shift.now e)) }
-    ensures ends { OnOk result ((first : ℕ) (steps : List Step)
-        → Joins (meanings T.places T.value_of terms.now) q shift.now graph.new.bases first steps
-        → ⊥) }
-    ensures proves { OnOk result (Prove (meanings T.places T.value_of terms.now)
-        (length shift.now) q shift.now graph.new.bases) }
-    ensures counted { OnOk result (IsCounted (meanings T.places T.value_of terms.now)
-        (length shift.now) q shift.now graph.old.bases graph.new.bases steps.old steps.new) }
-    ensures spread { OnOk result (AreSpread (meanings T.places T.value_of terms.now)
-        (length shift.now) shift.now graph.old.bases graph.new.bases) }
+    ensures improved { IfOk result (λ r. IsImproved T.Term terms.now q shift.now graph.old graph.new r
+        steps.old steps.new) }
     ensures few { steps.new ≤ steps.old + few_walks (length shift.now) (length terms.now) }
     ensures kept { steps.old ≤ steps.new }
 {
@@ -78,22 +64,8 @@ pub fn improve_from<T: Term>(
     requires small { All (λ x. All (IsAtMost (10 ^ 29)) x) graph.old.bases }
     requires gap { neg_ℤ (pos (4 * 10 ^ 29)) ≤ℤ deficit (length shift.now)
         (rest_at (meanings T.places T.value_of terms.now) graph.old.bases shift.now) }
-    ensures graph { OnOk result (IsClaimed T.Term terms.now (length shift.now) q graph.new) }
-    ensures bases { OnOk result (AreBases q (meanings T.places T.value_of terms.now)
-        graph.new.bases) }
-    ensures small { OnOk result (All (λ x. All IsEntry x) graph.new.bases) }
-    ensures rest { IfOk result (λ r. (length r ≡ length shift.now)
-        × ((e : ℕ) → e < length shift.now → slice_index_or r e (pos 0)
-        ≡ rest_at (meanings T.places T.value_of terms.now) graph.new.bases shift.now e)) }
-    ensures ends { OnOk result ((first : ℕ) (steps : List Step)
-        → Joins (meanings T.places T.value_of terms.now) q shift.now graph.new.bases first steps
-        → ⊥) }
-    ensures proves { OnOk result (Prove (meanings T.places T.value_of terms.now)
-        (length shift.now) q shift.now graph.new.bases) }
-    ensures counted { OnOk result (IsCounted (meanings T.places T.value_of terms.now)
-        (length shift.now) q shift.now graph.old.bases graph.new.bases steps.old steps.new) }
-    ensures spread { OnOk result (AreSpread (meanings T.places T.value_of terms.now)
-        (length shift.now) shift.now graph.old.bases graph.new.bases) }
+    ensures improved { IfOk result (λ r. IsImproved T.Term terms.now q shift.now graph.old graph.new r
+        steps.old steps.new) }
     ensures few { steps.new ≤ steps.old + few_walks (length shift.now) (length terms.now) }
     ensures kept { steps.old ≤ steps.new }
 {

@@ -1,8 +1,8 @@
 // Bases that prove the minimum of a sum of terms less a shift: the first bases of the terms, or given ones, are moved along
 // walks until no walk joins. Then they prove it (Edmonds' min-max; Schrijver, Combinatorial Optimization, section 45).
-ghost use Rattle.std.specs.{Prelude.{◌≡◌, ◌+◌, ◌^◌, ◌<◌, ◌≤◌, ℕ, ℤ, List, map, pos, ◌-ℤ◌, ◌≤ℤ◌, length, OnOk, IfOk, slice_index_or}, List.{All}};
-ghost use Rattle.sfm_spec.specs.{Sets.{magnitudes}, Bounds.{AreBounded, IsAtMost, IsEntry, IsFactor}, Families.{meanings, even_shift, rest_at, deficit, AreBases, Prove}, Walks.{Step, Joins, IsFewWalks, few_walks}};
-ghost use Rattle.sfm_walk.specs.{Counted.{IsCounted}, Spread.{IsUpTo}};
+ghost use Rattle.std.specs.{Prelude.{◌≡◌, ◌+◌, ◌^◌, ◌<◌, ◌≤◌, ℤ, map, pos, ◌-ℤ◌, ◌≤ℤ◌, length, OnOk, IfOk}, List.{All}};
+ghost use Rattle.sfm_spec.specs.{Sets.{magnitudes}, Bounds.{AreBounded, IsAtMost, IsFactor}, Families.{meanings, even_shift, rest_at, deficit, AreBases}, Walks.{IsFewWalks, few_walks}};
+ghost use Rattle.sfm_walk.specs.{Counted.{IsCounted}, Optimum.{AreOptimal, IsOptimum}, Spread.{IsUpTo}};
 ghost use Rattle.sfm_exchange.specs.Graph.{IsClaimed, IsShaped};
 
 use crate::advance::improve;
@@ -40,16 +40,8 @@ pub fn minimise<T: Term>(
     requires bounded { AreBounded n (map T.places terms.now) (map T.size_of terms.now) }
     requires slope { IsAtMost (10 ^ 24) p }
     requires factor { IsFactor q }
-    ensures bases { IfOk result (λ r. AreBases q (meanings T.places T.value_of terms.now) r.bases) }
-    ensures small { IfOk result (λ r. All (λ x. All IsEntry x) r.bases) }
-    ensures rest { IfOk result (λ r. (length r.z ≡ n) × ((e : ℕ) → e < n
-        → slice_index_or r.z e (pos 0) ≡ rest_at (meanings T.places T.value_of terms.now) r.bases
-        (even_shift n p) e)) }
-    ensures ends { IfOk result (λ r. (first : ℕ) (steps : List Step)
-        → Joins (meanings T.places T.value_of terms.now) q (even_shift n p) r.bases first steps
-        → ⊥) }
-    ensures proves { IfOk result (λ r. Prove (meanings T.places T.value_of terms.now) n q
-        (even_shift n p) r.bases) }
+    ensures optimum { IfOk result (IsOptimum (meanings T.places T.value_of terms.now) n q
+        (even_shift n p)) }
     ensures few { IfOk result (λ r. IsFewWalks (meanings T.places T.value_of terms.now) n q
         (even_shift n p) (map (λ term. T.start_of term q) terms.now) r.bases) }
     ensures plain { p ≡ pos 0 → q ≡ pos 1
@@ -77,16 +69,8 @@ pub fn minimise_counted<T: Term>(
     requires bounded { AreBounded n (map T.places terms.now) (map T.size_of terms.now) }
     requires slope { IsAtMost (10 ^ 24) p }
     requires factor { IsFactor q }
-    ensures bases { IfOk result (λ r. AreBases q (meanings T.places T.value_of terms.now) r.bases) }
-    ensures small { IfOk result (λ r. All (λ x. All IsEntry x) r.bases) }
-    ensures rest { IfOk result (λ r. (length r.z ≡ n) × ((e : ℕ) → e < n
-        → slice_index_or r.z e (pos 0) ≡ rest_at (meanings T.places T.value_of terms.now) r.bases
-        (even_shift n p) e)) }
-    ensures ends { IfOk result (λ r. (first : ℕ) (steps : List Step)
-        → Joins (meanings T.places T.value_of terms.now) q (even_shift n p) r.bases first steps
-        → ⊥) }
-    ensures proves { IfOk result (λ r. Prove (meanings T.places T.value_of terms.now) n q
-        (even_shift n p) r.bases) }
+    ensures optimum { IfOk result (IsOptimum (meanings T.places T.value_of terms.now) n q
+        (even_shift n p)) }
     ensures counted { IfOk result (λ r. IsCounted (meanings T.places T.value_of terms.now) n q
         (even_shift n p) (map (λ term. T.start_of term q) terms.now) r.bases steps.old steps.new) }
     ensures few { steps.new ≤ steps.old + few_walks n (length terms.now) }
@@ -115,15 +99,8 @@ pub fn minimise_at<T: Term>(
     requires each { length shift.now ≡ n }
     requires shifts { magnitudes shift.now ≤ℤ pos (10 ^ 27) }
     requires factor { IsFactor q }
-    ensures bases { IfOk result (λ r. AreBases q (meanings T.places T.value_of terms.now) r.bases) }
-    ensures small { IfOk result (λ r. All (λ x. All IsEntry x) r.bases) }
-    ensures rest { IfOk result (λ r. (length r.z ≡ n) × ((e : ℕ) → e < n
-        → slice_index_or r.z e (pos 0) ≡ rest_at (meanings T.places T.value_of terms.now) r.bases
-        shift.now e)) }
-    ensures ends { IfOk result (λ r. (first : ℕ) (steps : List Step)
-        → Joins (meanings T.places T.value_of terms.now) q shift.now r.bases first steps → ⊥) }
-    ensures proves { IfOk result (λ r. Prove (meanings T.places T.value_of terms.now) n q
-        shift.now r.bases) }
+    ensures optimum { IfOk result (IsOptimum (meanings T.places T.value_of terms.now) n q
+        shift.now) }
     ensures few { IfOk result (λ r. IsFewWalks (meanings T.places T.value_of terms.now) n q
         shift.now (map (λ term. T.start_of term q) terms.now) r.bases) }
 {
@@ -152,15 +129,8 @@ pub fn minimise_at_counted<T: Term>(
     requires each { length shift.now ≡ _n }
     requires shifts { magnitudes shift.now ≤ℤ pos (10 ^ 27) }
     requires factor { IsFactor q }
-    ensures bases { IfOk result (λ r. AreBases q (meanings T.places T.value_of terms.now) r.bases) }
-    ensures small { IfOk result (λ r. All (λ x. All IsEntry x) r.bases) }
-    ensures rest { IfOk result (λ r. (length r.z ≡ _n) × ((e : ℕ) → e < _n
-        → slice_index_or r.z e (pos 0) ≡ rest_at (meanings T.places T.value_of terms.now) r.bases
-        shift.now e)) }
-    ensures ends { IfOk result (λ r. (first : ℕ) (steps : List Step)
-        → Joins (meanings T.places T.value_of terms.now) q shift.now r.bases first steps → ⊥) }
-    ensures proves { IfOk result (λ r. Prove (meanings T.places T.value_of terms.now) _n q
-        shift.now r.bases) }
+    ensures optimum { IfOk result (IsOptimum (meanings T.places T.value_of terms.now) _n q
+        shift.now) }
     ensures counted { IfOk result (λ r. IsCounted (meanings T.places T.value_of terms.now) _n q
         shift.now (map (λ term. T.start_of term q) terms.now) r.bases steps.old steps.new) }
     ensures few { steps.new ≤ steps.old + few_walks _n (length terms.now) }
@@ -196,15 +166,8 @@ pub fn minimise_from<T: Term>(
     requires factor { IsFactor q }
     requires bases { AreBases q (meanings T.places T.value_of terms.now) bases }
     requires small { All (λ x. All (IsAtMost (10 ^ 25)) x) bases }
-    ensures bases { IfOk result (λ r. AreBases q (meanings T.places T.value_of terms.now) r.bases) }
-    ensures small { IfOk result (λ r. All (λ x. All IsEntry x) r.bases) }
-    ensures rest { IfOk result (λ r. (length r.z ≡ length shift.now) × ((e : ℕ)
-        → e < length shift.now → slice_index_or r.z e (pos 0)
-        ≡ rest_at (meanings T.places T.value_of terms.now) r.bases shift.now e)) }
-    ensures ends { IfOk result (λ r. (first : ℕ) (steps : List Step)
-        → Joins (meanings T.places T.value_of terms.now) q shift.now r.bases first steps → ⊥) }
-    ensures proves { IfOk result (λ r. Prove (meanings T.places T.value_of terms.now)
-        (length shift.now) q shift.now r.bases) }
+    ensures optimum { IfOk result (IsOptimum (meanings T.places T.value_of terms.now) (length shift.now) q
+        shift.now) }
     ensures counted { IfOk result (λ r. IsCounted (meanings T.places T.value_of terms.now)
         (length shift.now) q shift.now bases r.bases steps.old steps.new) }
     ensures spread { IfOk result (λ r. (b : ℤ) → All (λ x. All (IsUpTo b) x) bases
@@ -244,11 +207,7 @@ pub fn improve_from_start<T: Term>(
     requires firsts { IsClaimed T.Term terms.now (length shift.now) (pos 1) firsts.now }
     requires begins { firsts.now.bases ≡ map (λ term. T.start_of term (pos 1)) terms.now }
     ensures graph { OnOk result (IsClaimed T.Term terms.now (length shift.now) q graph.new) }
-    ensures small { OnOk result (All (λ x. All IsEntry x) graph.new.bases) }
-    ensures ends { OnOk result ((first : ℕ) (steps : List Step)
-        → Joins (meanings T.places T.value_of terms.now) q shift.now graph.new.bases first steps
-        → ⊥) }
-    ensures proves { OnOk result (Prove (meanings T.places T.value_of terms.now)
+    ensures optimal { OnOk result (AreOptimal (meanings T.places T.value_of terms.now)
         (length shift.now) q shift.now graph.new.bases) }
     ensures few { OnOk result (IsFewWalks (meanings T.places T.value_of terms.now)
         (length shift.now) q shift.now (map (λ term. T.start_of term q) terms.now)
@@ -281,11 +240,7 @@ pub fn minimise_from_start<T: Term>(
     requires firsts { IsClaimed T.Term terms.now (length shift.now) (pos 1) firsts.now }
     requires begins { firsts.now.bases ≡ map (λ term. T.start_of term (pos 1)) terms.now }
     ensures graph { OnOk result (IsShaped T.Term terms.now (length shift.now) graph.new) }
-    ensures bases { IfOk result (AreBases q (meanings T.places T.value_of terms.now)) }
-    ensures small { IfOk result (All (λ x. All IsEntry x)) }
-    ensures ends { IfOk result (λ r. (first : ℕ) (steps : List Step)
-        → Joins (meanings T.places T.value_of terms.now) q shift.now r first steps → ⊥) }
-    ensures proves { IfOk result (Prove (meanings T.places T.value_of terms.now)
+    ensures optimal { IfOk result (AreOptimal (meanings T.places T.value_of terms.now)
         (length shift.now) q shift.now) }
     ensures few { IfOk result (IsFewWalks (meanings T.places T.value_of terms.now)
         (length shift.now) q shift.now (map (λ term. T.start_of term q) terms.now)) }

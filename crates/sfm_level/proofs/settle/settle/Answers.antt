@@ -29,7 +29,7 @@ counted g c =
     let t = g.T.Term in
     even g c (λ n shift. IsCounted (meanings t.places t.value_of c.args.terms.now) n (pos 1) shift
     c.args.graph.now.bases c.improve_from.new.graph.bases c.args.steps.now
-    c.improve_from.new.steps) c.in_ok-z.ensures.counted
+    c.improve_from.new.steps) c.in_ok-z.ensures.improved.counted
 
 fit : (g : given.Over) (c : In_ok-z g) → let t = g.T.Term in
     AreTerms c.args.n (meanings t.places t.value_of c.args.terms.now)
@@ -69,14 +69,14 @@ returns-clause-graph g c =
     let after = c.improve_from.new.graph in
     levelling_after c.requires.graph (fit g d.In_ok-z) c.args.t k.0 after k.2
     (even g d.In_ok-z (λ n shift. IsClaimed t c.args.terms.now n
-    (pos 1) after) c.in_ok-z.ensures.graph)
+    (pos 1) after) c.in_ok-z.ensures.improved.graph)
     (even g d.In_ok-z (λ n shift. AreSpread ts n shift c.args.graph.now.bases after.bases)
-    c.in_ok-z.ensures.spread)
+    c.in_ok-z.ensures.improved.spread)
 
 pub returns-clause-places : goal.returns-clause-places
 returns-clause-places g c =
     let same : c.deref.result.now ≡ replicate c.args.n c.args.t = search rules in
-    c.in_ok-z.ensures.rest.0 ∙ (ap length same ∙ length-replicate c.args.n c.args.t)
+    c.in_ok-z.ensures.improved.rest.places ∙ (ap length same ∙ length-replicate c.args.n c.args.t)
 
 pub returns-clause-moved : goal.returns-clause-moved
 returns-clause-moved g c =
@@ -101,5 +101,5 @@ returns-clause-still g c =
     let same : after ≡ before
     = subst (λ m. IsWalkChain ts (pos 1) (even_shift c.args.n c.args.t) m before after) zero k.2 in
     let ends = even g d.In_ok-z (λ n shift. (first : ℕ) (steps : List Step)
-    → Joins ts (pos 1) shift after first steps → ⊥) c.in_ok-z.ensures.ends in
+    → Joins ts (pos 1) shift after first steps → ⊥) c.in_ok-z.ensures.improved.optimal.ends in
     record { same = same; ends = rw same at ends }

@@ -52,7 +52,7 @@ returns-clause-small g c =
     c.requires t.start_of (pos 1) (λ x. m.starts_small x (pos 1)) refl) in
     let none = magnitudes_none c.args.n in
     let shifts : magnitudes shift ≤ℤ pos (10 ^ 24) = rw same (omega (arith, ints, none)) in
-    let known = rw c.in_ok-graph.ensures.bases at c.in_ok-z.ensures.spread in
+    let known = rw c.in_ok-graph.ensures.bases at c.in_ok-z.ensures.improved.spread in
     let spread = spread_in_all t.places t.value_of c.args.terms.now shift first after known in
     rw (c.into_bases.ensures, c.in_ok-members.ensures.bases)
     (small_after t.places t.value_of c.args.terms.now shift first after small c.requires.few_places
@@ -61,5 +61,5 @@ returns-clause-small g c =
 pub returns-clause-proves : goal.returns-clause-proves
 returns-clause-proves g c =
     let same : c.deref.result.now ≡ replicate c.args.n (pos 0) = search rules in
-    let proves = rw (same, length-replicate c.args.n (pos 0)) at c.in_ok-z.ensures.proves in
+    let proves = rw (same, length-replicate c.args.n (pos 0)) at c.in_ok-z.ensures.improved.optimal.proves in
     rw (c.into_bases.ensures, c.in_ok-members.ensures.bases) proves

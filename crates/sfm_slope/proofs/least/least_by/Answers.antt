@@ -1,4 +1,4 @@
-use Rattle.std.proofs.Common.{length, sym, ◌∙◌, FitsSigned, arith, rules}
+use Rattle.std.proofs.Common.{length, ◌∙◌, FitsSigned, arith, rules}
 use Rattle.std.proofs.lemmas.Int.{ints, to_z-of_z}
 use mir.Syntax.{w128}
 use Rattle.sfm_spec.specs.Families.{meanings, IsLeast, Prove}
@@ -18,21 +18,23 @@ improve-requires-clause-graph g c =
     simp to_z-of_z c.requires.graph
 
 pub least_minimiser-requires-clause-graph : goal.least_minimiser-requires-clause-graph
-least_minimiser-requires-clause-graph g c = c.in_ok-z.ensures.graph
+least_minimiser-requires-clause-graph g c = c.in_ok-z.ensures.improved.graph
 
 pub least_minimiser-requires-clause-small : goal.least_minimiser-requires-clause-small
-least_minimiser-requires-clause-small g c = c.in_ok-z.ensures.small
+least_minimiser-requires-clause-small g c = c.in_ok-z.ensures.improved.optimal.small
 
 pub least_minimiser-requires-clause-rest : goal.least_minimiser-requires-clause-rest
-least_minimiser-requires-clause-rest g c = c.in_ok-z.ensures.rest
+least_minimiser-requires-clause-rest g c =
+    let rest = c.in_ok-z.ensures.improved.rest in
+    (rest.places, λ e l. rest.exact e (rw rest.places l))
 
 pub least_minimiser-requires-clause-proves : goal.least_minimiser-requires-clause-proves
-least_minimiser-requires-clause-proves g c = c.in_ok-z.ensures.proves
+least_minimiser-requires-clause-proves g c = c.in_ok-z.ensures.improved.optimal.proves
 
 -- z is what is left of the bases
 left : (g : given.Over) (c : After-as_slice g) → let t = g.T.Term in
     IsRest (meanings t.places t.value_of c.args.terms.now) c.args.shift.now c.improve.new.graph.bases c.as_slice.result.now
-left g c = rw c.as_slice.ensures (record { places = c.in_ok-z.ensures.rest.0; exact = λ e l. c.in_ok-z.ensures.rest.1 e (rw (sym c.in_ok-z.ensures.rest.0) l) })
+left g c = rw c.as_slice.ensures c.in_ok-z.ensures.improved.rest
 
 pub deficit_of-value-requires : goal.deficit_of-value-requires
 deficit_of-value-requires g c =
@@ -40,7 +42,7 @@ deficit_of-value-requires g c =
     let b = c.requires.graph.bounded in
     let sh = c.requires.shifts in
     rest-total t.places t.value_of c.args.terms.now c.args.shift.now c.improve.new.graph.bases c.as_slice.result.now
-    (left g (goal.at.deficit_of-value-requires g c).After-as_slice) c.in_ok-z.ensures.small b.few_places b.few (omega (arith, ints, sh))
+    (left g (goal.at.deficit_of-value-requires g c).After-as_slice) c.in_ok-z.ensures.improved.optimal.small b.few_places b.few (omega (arith, ints, sh))
 
 pub returns-clause-value : goal.returns-clause-value
 returns-clause-value g c =
@@ -49,7 +51,7 @@ returns-clause-value g c =
     let ts = meanings t.places t.value_of c.args.terms.now in
     let shift = c.args.shift.now in
     let n = length shift in
-    let prove : Prove ts n c.args.q shift c.improve.new.graph.bases = simp to_z-of_z at c.in_ok-z.ensures.proves in
+    let prove : Prove ts n c.args.q shift c.improve.new.graph.bases = simp to_z-of_z at c.in_ok-z.ensures.improved.optimal.proves in
     let least : IsLeast ts n c.args.q shift c.in_ok-set.set = simp to_z-of_z at c.in_ok-set.ensures.least in
     let is = deficit_by_rest ts shift c.improve.new.graph.bases c.as_slice.result.now (left g (goal.at.returns-clause-value g c).After-as_slice) in
     let fv : FitsSigned w128 c.deficit_of-value.result = search rules in

@@ -61,6 +61,6 @@ returns-clause-bases g c =
     let fq : FitsSigned w128 s.den = omega (arith, ints, s.factor.low, s.factor.high) in
     let same = written g (goal.at.returns-clause-bases g c).After-deref in
     let h = c.in_ok-bases.ensures in
-    let proves = rw (same, length-map c.args.sizes.now _) at h.proves in
+    let proves = rw (same, length-map c.args.sizes.now _) at h.optimal.proves in
     let few = rw (same, length-map c.args.sizes.now _) at h.few in
-    record { bases = simp to_z-of_z at h.bases; small = h.small; proves = simp to_z-of_z at proves; reached = simp to_z-of_z at few; few = c.requires.range.few }
+    record { bases = simp to_z-of_z at h.optimal.bases; small = h.optimal.small; proves = simp to_z-of_z at proves; reached = simp to_z-of_z at few; few = c.requires.range.few }

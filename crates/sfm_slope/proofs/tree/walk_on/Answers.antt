@@ -61,14 +61,14 @@ returns-then-at-count-clause-search g c =
       first = c.requires.search.first;
       begins = c.requires.search.begins;
       warm = c.requires.search.warm;
-      cold = rw (long g at) at (shaped c.in_ok-improve.ensures.graph);
+      cold = rw (long g at) at (shaped c.in_ok-improve.ensures.improved.graph);
       shift = c.set_shift.ensures.places;
     }
 
 pub returns-clause-search : goal.returns-clause-search
 returns-clause-search g c =
     let at = (goal.at.returns-clause-search g c).After-deref in
-    let s = rw (long g at) at (shaped c.in_ok-improve.ensures.graph) in
+    let s = rw (long g at) at (shaped c.in_ok-improve.ensures.improved.graph) in
     record {
       first = c.requires.search.first;
       begins = c.requires.search.begins;
@@ -88,7 +88,7 @@ returns-clause-section g c =
     let after = c.improve.new.graph.bases in
     let fq : FitsSigned w128 s.den = omega (arith, ints, s.factor.low, s.factor.high) in
     let same = written g (goal.at.returns-clause-section g c).After-deref in
-    let e = c.in_ok-improve.ensures in
+    let e = c.in_ok-improve.ensures.improved in
     let k = e.counted.0 in
     let bases = rows_times s.den c.args.at.now.graph.bases in
     let chain : IsWalkChain ts s.den shift k bases after = rw (same, multiplied g (goal.at.returns-clause-section g c).In_ok-restart_by) at (simp to_z-of_z at e.counted.2) in
@@ -96,8 +96,8 @@ returns-clause-section g c =
     let n = c.args.at.now.walks in
     let total : n + k ≤ few_walks (length sizes) (length c.args.terms.now) = omega (arith, count, c.count.ensures, c.new-steps.ensures, c.if-at-count.false, c.most_walks.ensures.is) in
     rw c.replace.ensures.value (record {
-      bases = simp to_z-of_z at e.bases;
-      small = e.small;
-      proves = simp to_z-of_z at (rw (same, length-map sizes _) at e.proves);
+      bases = simp to_z-of_z at e.optimal.bases;
+      small = e.optimal.small;
+      proves = simp to_z-of_z at (rw (same, length-map sizes _) at e.optimal.proves);
       reached = (n + k, rw (counted c.requires.standing.1.claimed) total, walks_join ts s.den shift n k firsts bases after c.requires.chain chain);
     })

@@ -27,39 +27,10 @@ improve_from-requires-clause-gap g c =
     deficit_low t.places t.value_of c.args.terms.now c.args.graph.now.bases c.args.shift.now
     r.small r.graph.bounded.few_places r.shifts
 
-pub returns-clause-graph : goal.returns-clause-graph
-returns-clause-graph g c =
+pub returns-clause-improved : goal.returns-clause-improved
+returns-clause-improved g c =
     let fq : FitsSigned w128 c.args.q = c.ranges.q in
-    simp to_z-of_z at c.improve_from.ensures.graph
-
-pub returns-clause-bases : goal.returns-clause-bases
-returns-clause-bases g c =
-    let fq : FitsSigned w128 c.args.q = c.ranges.q in
-    simp to_z-of_z at c.improve_from.ensures.bases
-
-pub returns-clause-small : goal.returns-clause-small
-returns-clause-small g c = c.improve_from.ensures.small
-
-pub returns-clause-rest : goal.returns-clause-rest
-returns-clause-rest g c = c.improve_from.ensures.rest
-
-pub returns-clause-ends : goal.returns-clause-ends
-returns-clause-ends g c =
-    let fq : FitsSigned w128 c.args.q = c.ranges.q in
-    simp to_z-of_z at c.improve_from.ensures.ends
-
-pub returns-clause-proves : goal.returns-clause-proves
-returns-clause-proves g c =
-    let fq : FitsSigned w128 c.args.q = c.ranges.q in
-    simp to_z-of_z at c.improve_from.ensures.proves
-
-pub returns-clause-counted : goal.returns-clause-counted
-returns-clause-counted g c =
-    let fq : FitsSigned w128 c.args.q = c.ranges.q in
-    simp to_z-of_z at c.improve_from.ensures.counted
-
-pub returns-clause-spread : goal.returns-clause-spread
-returns-clause-spread g c = c.improve_from.ensures.spread
+    simp to_z-of_z at c.improve_from.ensures.improved
 
 pub returns-clause-few : goal.returns-clause-few
 returns-clause-few g c = c.improve_from.ensures.few

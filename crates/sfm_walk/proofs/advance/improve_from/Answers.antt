@@ -99,47 +99,28 @@ tick-requires g c =
     let few = few_walks_small (length c.args.shift.now) (length c.args.terms.now) c.requires.graph.bounded.few (rw length-map at c.requires.graph.bounded.few_terms) in
     omega (arith, few, c.requires.room, c.loop-run.invariant.3)
 
-pub returns-clause-graph : goal.returns-clause-graph
-returns-clause-graph g c =
-    let fq : FitsSigned w128 c.args.q = c.ranges.q in
-    simp to_z-of_z at c.in_ok-next_walk.ensures.graph
-
-pub returns-clause-bases : goal.returns-clause-bases
-returns-clause-bases g c =
-    let fq : FitsSigned w128 c.args.q = c.ranges.q in
-    (simp to_z-of_z at c.in_ok-next_walk.ensures.graph).are_bases
-
-pub returns-clause-small : goal.returns-clause-small
-returns-clause-small g c = rw c.in_ok-next_walk.ensures.bases (small_still c.loop-run.invariant.0 c.requires.small (10 ^ 30) (omega arith))
-
-pub returns-clause-rest : goal.returns-clause-rest
-returns-clause-rest g c =
-    let rest = c.in_ok-next_walk.ensures.run.is_rest in
-    rw (c.from_vec.ensures, c.in_ok-next_walk.ensures.bases) (rest.places, (λ e l. rest.exact e (rw rest.places l)))
-
-pub returns-clause-ends : goal.returns-clause-ends
-returns-clause-ends g c =
-    let fq : FitsSigned w128 c.args.q = c.ranges.q in
-    rw c.in_ok-next_walk.ensures.bases (simp to_z-of_z at (c.in_ok-next_walk.ensures.ends c.if-branch.false))
-
-pub returns-clause-proves : goal.returns-clause-proves
-returns-clause-proves g c =
+pub returns-clause-improved : goal.returns-clause-improved
+returns-clause-improved g c =
     let t = g.T.Term in
     let m = g.met.T.Term in
+    let ts = meanings t.places t.value_of c.args.terms.now in
+    let shift = c.args.shift.now in
     let fq : FitsSigned w128 c.args.q = c.ranges.q in
     let h = simp to_z-of_z at c.in_ok-next_walk.ensures.graph in
-    let ends = simp to_z-of_z at (c.in_ok-next_walk.ensures.ends c.if-branch.false) in
-    prove_if_none (meanings t.places t.value_of c.args.terms.now) c.next_walk.new.graph.bases (length c.args.shift.now) c.args.q c.args.shift.now (low h) (are_terms h m.family m.submodular) h.are_bases (rw c.in_ok-next_walk.ensures.bases ends)
-
-pub returns-clause-counted : goal.returns-clause-counted
-returns-clause-counted g c =
-    let t = g.T.Term in
-    let fq : FitsSigned w128 c.args.q = c.ranges.q in
-    let shift = c.args.shift.now in
-    rw c.in_ok-next_walk.ensures.bases (counting_is (meanings t.places t.value_of c.args.terms.now) (length shift) c.args.q shift c.args.graph.now.bases c.loop-run.graph.bases c.args.steps.now c.loop-run.steps (simp to_z-of_z at c.loop-run.invariant.2))
-
-pub returns-clause-spread : goal.returns-clause-spread
-returns-clause-spread g c = rw c.in_ok-next_walk.ensures.bases c.loop-run.invariant.0.spread
+    let none = simp to_z-of_z at (c.in_ok-next_walk.ensures.ends c.if-branch.false) in
+    let rest = c.in_ok-next_walk.ensures.run.is_rest in
+    record {
+      graph = h;
+      optimal = record {
+        bases = h.are_bases;
+        small = rw c.in_ok-next_walk.ensures.bases (small_still c.loop-run.invariant.0 c.requires.small (10 ^ 30) (omega arith));
+        ends = rw c.in_ok-next_walk.ensures.bases none;
+        proves = prove_if_none ts c.next_walk.new.graph.bases (length shift) c.args.q shift (low h) (are_terms h m.family m.submodular) h.are_bases (rw c.in_ok-next_walk.ensures.bases none);
+      };
+      rest = rw (c.from_vec.ensures, c.in_ok-next_walk.ensures.bases) rest;
+      counted = rw c.in_ok-next_walk.ensures.bases (counting_is ts (length shift) c.args.q shift c.args.graph.now.bases c.loop-run.graph.bases c.args.steps.now c.loop-run.steps (simp to_z-of_z at c.loop-run.invariant.2));
+      spread = rw c.in_ok-next_walk.ensures.bases c.loop-run.invariant.0.spread;
+    }
 
 pub next_walk-requires-clause-run : goal.next_walk-requires-clause-run
 next_walk-requires-clause-run g c = c.loop-run.invariant.0.at

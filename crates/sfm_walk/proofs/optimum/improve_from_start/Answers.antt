@@ -33,7 +33,7 @@ improve-requires-clause-small g c =
 pub returns-clause-few : goal.returns-clause-few
 returns-clause-few g c =
     let fq : FitsSigned w128 c.args.q = c.ranges.q in
-    let from_start = rw (begins g (goal.at.returns-clause-few g c).In_ok-restart_by) at (simp to_z-of_z at c.in_ok-improve.ensures.counted) in
+    let from_start = rw (begins g (goal.at.returns-clause-few g c).In_ok-restart_by) at (simp to_z-of_z at c.in_ok-improve.ensures.improved.counted) in
     (from_start.0, from_start.1, from_start.2)
 
 pub restart_by-requires-clause-graph : goal.restart_by-requires-clause-graph
@@ -46,20 +46,12 @@ pub improve-requires-clause-graph : goal.improve-requires-clause-graph
 improve-requires-clause-graph g c = rw c.requires.graph.are_spots.count at c.in_ok-restart_by.ensures.graph
 
 pub returns-clause-graph : goal.returns-clause-graph
-returns-clause-graph g c = let fq : FitsSigned w128 c.args.q = c.ranges.q in simp to_z-of_z at c.in_ok-improve.ensures.graph
+returns-clause-graph g c = let fq : FitsSigned w128 c.args.q = c.ranges.q in simp to_z-of_z at c.in_ok-improve.ensures.improved.graph
 
-pub returns-clause-small : goal.returns-clause-small
-returns-clause-small g c = c.in_ok-improve.ensures.small
-
-pub returns-clause-ends : goal.returns-clause-ends
-returns-clause-ends g c =
+pub returns-clause-optimal : goal.returns-clause-optimal
+returns-clause-optimal g c =
     let fq : FitsSigned w128 c.args.q = c.ranges.q in
-    simp to_z-of_z at c.in_ok-improve.ensures.ends
-
-pub returns-clause-proves : goal.returns-clause-proves
-returns-clause-proves g c =
-    let fq : FitsSigned w128 c.args.q = c.ranges.q in
-    simp to_z-of_z at c.in_ok-improve.ensures.proves
+    simp to_z-of_z at c.in_ok-improve.ensures.improved.optimal
 
 pub restart_by-requires-clause-factor : goal.restart_by-requires-clause-factor
 restart_by-requires-clause-factor g c = let fq : FitsSigned w128 c.args.q = c.ranges.q in simp to_z-of_z c.requires.factor

@@ -7,26 +7,10 @@ use Rattle.sfm_spec.specs.Walks.{IsFewWalks}
 use Rattle.sfm_walk.specs.Counted.{IsCounted}
 use Rattle.sfm_walk.proofs.optimum.minimise_at.Goals as goal
 
-pub returns-clause-bases : goal.returns-clause-bases
-returns-clause-bases g c =
+pub returns-clause-optimum : goal.returns-clause-optimum
+returns-clause-optimum g c =
     let fq : FitsSigned w128 c.args.q = c.ranges.q in
-    simp to_z-of_z at c.minimise_at_counted.ensures.bases
-
-pub returns-clause-rest : goal.returns-clause-rest
-returns-clause-rest g c = c.minimise_at_counted.ensures.rest
-
-pub returns-clause-proves : goal.returns-clause-proves
-returns-clause-proves g c =
-    let fq : FitsSigned w128 c.args.q = c.ranges.q in
-    simp to_z-of_z at c.minimise_at_counted.ensures.proves
-
-pub returns-clause-small : goal.returns-clause-small
-returns-clause-small g c = c.minimise_at_counted.ensures.small
-
-pub returns-clause-ends : goal.returns-clause-ends
-returns-clause-ends g c =
-    let fq : FitsSigned w128 c.args.q = c.ranges.q in
-    simp to_z-of_z at c.minimise_at_counted.ensures.ends
+    simp to_z-of_z at c.minimise_at_counted.ensures.optimum
 
 pub returns-clause-few : goal.returns-clause-few
 returns-clause-few g c =

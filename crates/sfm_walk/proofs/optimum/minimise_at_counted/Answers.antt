@@ -1,4 +1,4 @@
-use Rattle.std.proofs.Common.{◌≡◌, ℕ, ◌+◌, ◌<◌, ◌≤◌, ◌*◌, ◌^◌, ℤ, ◌-ℤ◌, List, length, map, get_or, pos, subst, arith, FitsSigned}
+use Rattle.std.proofs.Common.{ℕ, ◌+◌, ◌≤◌, ◌*◌, ◌^◌, ℤ, ◌-ℤ◌, length, map, subst, arith, FitsSigned}
 use Rattle.std.proofs.lemmas.Int.{to_z-of_z}
 use Rattle.std.proofs.lemmas.Result.{IfOk-weaker}
 use Rattle.std.specs.List.{All}
@@ -6,9 +6,10 @@ use Rattle.std.specs.Result.{IfOk}
 use mir.Syntax.{w128}
 use mir.Val.{of_z, to_z}
 use Rattle.sfm_spec.specs.Bounds.{IsAtMost}
-use Rattle.sfm_spec.specs.Families.{meanings, rest_at, deficit, Prove}
-use Rattle.sfm_spec.specs.Walks.{Step, Joins, few_walks}
+use Rattle.sfm_spec.specs.Families.{meanings, rest_at, deficit}
+use Rattle.sfm_spec.specs.Walks.{few_walks}
 use Rattle.sfm_walk.specs.Counted.{IsCounted}
+use Rattle.sfm_walk.specs.Optimum.{IsOptimum}
 use Rattle.sfm_walk.specs.Spread.{IsUpTo}
 use Rattle.sfm_walk.proofs.Spreads.{small_after}
 use Rattle.sfm_walk.proofs.Starting.{sizes_bounded, starts_bounded, starts_plain_bounded}
@@ -63,39 +64,12 @@ minimise_from-requires-clause-small g c =
     (starts_bounded t.places t.value_of t.size_of m.submodular m.bounded _ c.args.terms.now
     c.requires.bounded t.start_of c.args.q (λ x. m.starts_small x c.args.q) c.requires.factor)
 
-pub returns-clause-bases : goal.returns-clause-bases
-returns-clause-bases g c =
-    let fq : FitsSigned w128 c.args.q = c.ranges.q in
-    simp to_z-of_z at c.minimise_from.ensures.bases
-
-pub returns-clause-small : goal.returns-clause-small
-returns-clause-small g c = c.minimise_from.ensures.small
-
-pub returns-clause-rest : goal.returns-clause-rest
-returns-clause-rest g c =
+pub returns-clause-optimum : goal.returns-clause-optimum
+returns-clause-optimum g c =
     let t = g.T.Term in
     let ts = meanings t.places t.value_of c.args.terms.now in
     let call = c.minimise_from in
-    here g (goal.at.returns-clause-rest g c).After-minimise_from
-    (λ n q. IfOk call.result (λ r. (length r.z ≡ n) × ((e : ℕ) → e < n
-    → get_or r.z e (pos 0) ≡ rest_at ts r.bases c.args.shift.now e))) call.ensures.rest
-
-pub returns-clause-ends : goal.returns-clause-ends
-returns-clause-ends g c =
-    let t = g.T.Term in
-    let ts = meanings t.places t.value_of c.args.terms.now in
-    let call = c.minimise_from in
-    here g (goal.at.returns-clause-ends g c).After-minimise_from
-    (λ n q. IfOk call.result (λ r. (first : ℕ) (steps : List Step)
-    → Joins ts q c.args.shift.now r.bases first steps → ⊥)) call.ensures.ends
-
-pub returns-clause-proves : goal.returns-clause-proves
-returns-clause-proves g c =
-    let t = g.T.Term in
-    let ts = meanings t.places t.value_of c.args.terms.now in
-    let call = c.minimise_from in
-    here g (goal.at.returns-clause-proves g c).After-minimise_from
-    (λ n q. IfOk call.result (λ r. Prove ts n q c.args.shift.now r.bases)) call.ensures.proves
+    here g (goal.at.returns-clause-optimum g c).After-minimise_from (λ n q. IfOk call.result (IsOptimum ts n q c.args.shift.now)) call.ensures.optimum
 
 pub returns-clause-counted : goal.returns-clause-counted
 returns-clause-counted g c =

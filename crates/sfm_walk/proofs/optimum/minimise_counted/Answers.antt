@@ -1,13 +1,13 @@
-use Rattle.std.proofs.Common.{◌≡◌, ℕ, ◌<◌, ℤ, List, length, map, get_or, pos, ◌≤ℤ◌, replicate, rules, arith, FitsSigned}
+use Rattle.std.proofs.Common.{◌≡◌, ℤ, List, length, map, pos, ◌≤ℤ◌, replicate, rules, arith, FitsSigned}
 use Rattle.std.proofs.lemmas.Int.{ints, to_z-of_z}
 use Rattle.std.proofs.lemmas.List.{length-replicate}
 use Rattle.std.specs.Result.{IfOk}
 use mir.Syntax.{w128}
 use mir.Val.{of_z, to_z}
 use Rattle.sfm_spec.specs.Sets.{magnitudes}
-use Rattle.sfm_spec.specs.Families.{meanings, even_shift, rest_at, Prove}
-use Rattle.sfm_spec.specs.Walks.{Step, Joins}
+use Rattle.sfm_spec.specs.Families.{meanings, even_shift}
 use Rattle.sfm_walk.specs.Counted.{IsCounted}
+use Rattle.sfm_walk.specs.Optimum.{IsOptimum}
 use Rattle.sfm_walk.proofs.Starting.{even_small, magnitudes_none}
 use Rattle.sfm_walk.proofs.optimum.minimise_counted.Given as given
 use Rattle.sfm_walk.proofs.optimum.minimise_counted.Goals as goal
@@ -44,40 +44,12 @@ minimise_at_counted-requires-clause-bounded g c = c.requires.bounded
 pub minimise_at_counted-requires-clause-room : goal.minimise_at_counted-requires-clause-room
 minimise_at_counted-requires-clause-room g c = c.requires.room
 
-pub returns-clause-bases : goal.returns-clause-bases
-returns-clause-bases g c =
-    let fq : FitsSigned w128 c.args.q = c.ranges.q in
-    simp to_z-of_z at c.minimise_at_counted.ensures.bases
-
-pub returns-clause-small : goal.returns-clause-small
-returns-clause-small g c = c.minimise_at_counted.ensures.small
-
-pub returns-clause-rest : goal.returns-clause-rest
-returns-clause-rest g c =
-    let t = g.T.Term in
-    let ts = meanings t.places t.value_of c.args.terms.now in
-    let n = c.args.n in
-    let call = c.minimise_at_counted in
-    even g (goal.at.returns-clause-rest g c).After-minimise_at_counted
-    (λ q shift. IfOk call.result (λ r. (length r.z ≡ n) × ((e : ℕ) → e < n
-    → get_or r.z e (pos 0) ≡ rest_at ts r.bases shift e))) call.ensures.rest
-
-pub returns-clause-ends : goal.returns-clause-ends
-returns-clause-ends g c =
+pub returns-clause-optimum : goal.returns-clause-optimum
+returns-clause-optimum g c =
     let t = g.T.Term in
     let ts = meanings t.places t.value_of c.args.terms.now in
     let call = c.minimise_at_counted in
-    even g (goal.at.returns-clause-ends g c).After-minimise_at_counted
-    (λ q shift. IfOk call.result (λ r. (first : ℕ) (steps : List Step)
-    → Joins ts q shift r.bases first steps → ⊥)) call.ensures.ends
-
-pub returns-clause-proves : goal.returns-clause-proves
-returns-clause-proves g c =
-    let t = g.T.Term in
-    let ts = meanings t.places t.value_of c.args.terms.now in
-    let call = c.minimise_at_counted in
-    even g (goal.at.returns-clause-proves g c).After-minimise_at_counted
-    (λ q shift. IfOk call.result (λ r. Prove ts c.args.n q shift r.bases)) call.ensures.proves
+    even g (goal.at.returns-clause-optimum g c).After-minimise_at_counted (λ q shift. IfOk call.result (IsOptimum ts c.args.n q shift)) call.ensures.optimum
 
 pub returns-clause-counted : goal.returns-clause-counted
 returns-clause-counted g c =

@@ -40,37 +40,22 @@ improve-requires-clause-graph g c =
 pub improve-requires-clause-small : goal.improve-requires-clause-small
 improve-requires-clause-small g c = rw c.in_ok-graph.ensures.bases c.requires.small
 
-pub returns-clause-bases : goal.returns-clause-bases
-returns-clause-bases g c =
+pub returns-clause-optimum : goal.returns-clause-optimum
+returns-clause-optimum g c =
     let fq : FitsSigned w128 c.args.q = c.ranges.q in
-    rw c.into_bases.ensures (simp to_z-of_z at c.in_ok-z.ensures.bases)
-
-pub returns-clause-small : goal.returns-clause-small
-returns-clause-small g c = rw c.into_bases.ensures c.in_ok-z.ensures.small
-
-pub returns-clause-rest : goal.returns-clause-rest
-returns-clause-rest g c = rw c.into_bases.ensures c.in_ok-z.ensures.rest
-
-pub returns-clause-ends : goal.returns-clause-ends
-returns-clause-ends g c =
-    let fq : FitsSigned w128 c.args.q = c.ranges.q in
-    rw c.into_bases.ensures (simp to_z-of_z at c.in_ok-z.ensures.ends)
-
-pub returns-clause-proves : goal.returns-clause-proves
-returns-clause-proves g c =
-    let fq : FitsSigned w128 c.args.q = c.ranges.q in
-    rw c.into_bases.ensures (simp to_z-of_z at c.in_ok-z.ensures.proves)
+    let improved = simp to_z-of_z at c.in_ok-z.ensures.improved in
+    record { optimal = rw c.into_bases.ensures improved.optimal; rest = rw c.into_bases.ensures improved.rest }
 
 pub returns-clause-counted : goal.returns-clause-counted
 returns-clause-counted g c =
     let fq : FitsSigned w128 c.args.q = c.ranges.q in
-    let known = rw c.in_ok-graph.ensures.bases at c.in_ok-z.ensures.counted in
+    let known = rw c.in_ok-graph.ensures.bases at c.in_ok-z.ensures.improved.counted in
     rw c.into_bases.ensures (simp to_z-of_z at known)
 
 pub returns-clause-spread : goal.returns-clause-spread
 returns-clause-spread g c =
     let t = g.T.Term in
-    let known = rw c.in_ok-graph.ensures.bases at c.in_ok-z.ensures.spread in
+    let known = rw c.in_ok-graph.ensures.bases at c.in_ok-z.ensures.improved.spread in
     rw c.into_bases.ensures (spread_in_all t.places t.value_of c.args.terms.now c.args.shift.now
     c.args.bases c.improve.new.graph.bases known)
 

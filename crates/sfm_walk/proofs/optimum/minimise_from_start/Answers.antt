@@ -9,23 +9,10 @@ returns-clause-graph g c =
     let s = shaped c.in_ok-improve_from_start.ensures.graph in
     record { are_spots = s.are_spots; sized_rows = s.sized_rows; claim_count = s.claim_count; union_count = s.union_count; back_count = s.back_count }
 
-pub returns-clause-bases : goal.returns-clause-bases
-returns-clause-bases g c =
+pub returns-clause-optimal : goal.returns-clause-optimal
+returns-clause-optimal g c =
     let fq : FitsSigned w128 c.args.q = c.ranges.q in
-    rw c.replace.ensures.value (simp to_z-of_z at c.in_ok-improve_from_start.ensures.graph.are_bases)
-
-pub returns-clause-small : goal.returns-clause-small
-returns-clause-small g c = rw c.replace.ensures.value c.in_ok-improve_from_start.ensures.small
-
-pub returns-clause-ends : goal.returns-clause-ends
-returns-clause-ends g c =
-    let fq : FitsSigned w128 c.args.q = c.ranges.q in
-    rw c.replace.ensures.value (simp to_z-of_z at c.in_ok-improve_from_start.ensures.ends)
-
-pub returns-clause-proves : goal.returns-clause-proves
-returns-clause-proves g c =
-    let fq : FitsSigned w128 c.args.q = c.ranges.q in
-    rw c.replace.ensures.value (simp to_z-of_z at c.in_ok-improve_from_start.ensures.proves)
+    rw c.replace.ensures.value (simp to_z-of_z at c.in_ok-improve_from_start.ensures.optimal)
 
 pub returns-clause-few : goal.returns-clause-few
 returns-clause-few g c =

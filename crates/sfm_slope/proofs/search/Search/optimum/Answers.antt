@@ -20,7 +20,7 @@ pub ask_claimed-requires-clause-graph : goal.ask_claimed-requires-clause-graph
 ask_claimed-requires-clause-graph g c = own c.in_ok-improve_from_start.ensures.graph
 
 pub ask_claimed-requires-clause-small : goal.ask_claimed-requires-clause-small
-ask_claimed-requires-clause-small g c = c.in_ok-improve_from_start.ensures.small
+ask_claimed-requires-clause-small g c = c.in_ok-improve_from_start.ensures.optimal.small
 
 -- the graph is whole over the places of the search
 whole : (g : given.Over) (c : In_ok-ask_claimed g) → IsWhole g.T.Term c.args.terms.now (length c.args.self.now.shift.items) (pos 1) c.ask_claimed.new.graph
