@@ -7,9 +7,7 @@ use Rattle.sfm_spec.specs.Families.{Meaning, AreBases}
 use Rattle.sfm_spec.specs.Walks.{term_at, base_at}
 use Rattle.sfm_spec.proofs.Walks.{bases-at}
 use Rattle.sfm_spec.proofs.Exchange.{base_between}
-use Rattle.sfm_law.specs.declared.room.Room.{Room}
-use Rattle.sfm_law.specs.declared.room.Room.TheVariants.{Upto, Unbounded}
-use Rattle.sfm_law.specs.Room.{IsRoom, AtMostRoom}
+use Rattle.sfm_law.specs.Room.{IsCapacityUpto}
 use Rattle.sfm_exchange.specs.declared.path.Hop.{Hop}
 use Rattle.sfm_exchange.specs.Hops.{IsMovable, Moves, hop_at}
 
@@ -30,34 +28,20 @@ module _ (terms : List Meaning) (q : ℤ) (rows : List (List ℤ)) (bases : AreB
       let (sized, base) = bases-at q terms rows hop.term bases m.term_in in
       base_between base (rw sized m.u_in) (rw sized m.v_in) m.apart a b low le moves
 
-  -- an amount within the room can be moved
-  moves_room : (hop : Hop) → IsMovable terms q rows hop → (room : Room) → IsRoom (times q (term_at terms hop.term).value) (base_at rows hop.term) hop.u hop.v room
-      → (a : ℤ) → pos 0 ≤ℤ a → AtMostRoom a room → Moves terms q rows hop a
-  moves_room hop m (Upto c) is a low le = moves_less hop m a c low le is.reached
-  moves_room hop m Unbounded is a low le = is.0 a low
-
-  -- an amount that can be moved is within the room
-  within_room : (hop : Hop) (room : Room) → IsRoom (times q (term_at terms hop.term).value) (base_at rows hop.term) hop.u hop.v room → (a : ℤ) → Moves terms q rows hop a → AtMostRoom a room
-  within_room hop (Upto c) is a moves = is.greatest a moves
-  within_room hop Unbounded is a moves = tt
-
   -- one step more
-  pub amount_more : (hops : List Hop) (k : ℕ) (most a b : ℤ) (room : Room) → IsMovable terms q rows (hop_at hops k) → IsAmount terms q rows hops k most a
-      → IsRoom (times q (term_at terms (hop_at hops k).term).value) (base_at rows (hop_at hops k).term) (hop_at hops k).u (hop_at hops k).v room
-      → ((j : ℕ) → j < k → IsMovable terms q rows (hop_at hops j)) → b ≤ℤ a → AtMostRoom b room → ((c : ℤ) → c ≤ℤ a → AtMostRoom c room → c ≤ℤ b) → IsAmount terms q rows hops (k + 1) most b
-  amount_more hops k most a b room m h is movable le within greatest = record {
+  pub amount_more : (hops : List Hop) (k : ℕ) (most a b : ℤ) → IsMovable terms q rows (hop_at hops k) → IsAmount terms q rows hops k most a
+      → IsCapacityUpto (times q (term_at terms (hop_at hops k).term).value) (base_at rows (hop_at hops k).term) (hop_at hops k).u (hop_at hops k).v a b
+      → ((j : ℕ) → j < k → IsMovable terms q rows (hop_at hops j)) → IsAmount terms q rows hops (k + 1) most b
+  amount_more hops k most a b m h upto movable = record {
     some = some;
-    within = let w = h.within in omega (arith, ints, w, le);
+    within = let w = h.within in let le = upto.high in omega (arith, ints, w, le);
     moves = λ j l. ⊎_elim
-        (λ less. moves_less (hop_at hops j) (movable j less) b a low le (h.moves j less))
-        (λ ge. let same : j ≡ k = omega (arith, ge, l) in rw same (moves_room (hop_at hops k) m room is b low within))
+        (λ less. moves_less (hop_at hops j) (movable j less) b a upto.low upto.high (h.moves j less))
+        (λ ge. let same : j ≡ k = omega (arith, ge, l) in rw same upto.reached)
         (cases_lt j k);
-    greatest = λ c lc moves. greatest c (h.greatest c lc (λ j l. moves j (omega (arith, l)))) (within_room (hop_at hops k) room is c (moves k (omega arith)));
+    greatest = λ c lc moves. upto.greatest c (h.greatest c lc (λ j l. moves j (omega (arith, l)))) (moves k (omega arith));
   } where
     some : pos 1 ≤ℤ b
     some =
         let (c, one, base) = m.room in
-        greatest (pos 1) h.some (within_room (hop_at hops k) room is (pos 1) (moves_less (hop_at hops k) m (pos 1) c (omega (arith, ints)) one base))
-
-    low : pos 0 ≤ℤ b
-    low = omega (arith, ints, some)
+        upto.greatest (pos 1) h.some (moves_less (hop_at hops k) m (pos 1) c (omega (arith, ints)) one base)

@@ -1,38 +1,38 @@
 // The calls of a term by the note that is kept beside its base, or made now where none is, which is kept then.
-ghost use Rattle.std.specs.Prelude.{◌≡◌, length, ◌*ℤ◌, IfOk, OnOk};
+ghost use Rattle.std.specs.Prelude.{◌≡◌, length, pos, ◌*ℤ◌, ◌≤ℤ◌, IfOk, OnOk};
 ghost use Rattle.sfm_spec.specs.{Bounds.{IsFactor}, Terms.{exchanged, times}};
-ghost use Rattle.sfm_law.specs.{Based.{IsBased, IsPair, CanSwap}, Room.{IsRoom}};
+ghost use Rattle.sfm_law.specs.{Based.{IsBased, IsPair, CanSwap}, Room.{IsCapacityUpto}};
 ghost use Rattle.sfm_reach.specs.{Based.{IsPlacedBase}, Reach.{kept_fits}};
 ghost use Rattle.sfm_exchange.specs.{Renewed.{AreClaimsBefore, AreRenewed}, Scaled.{row_times}};
 
 use crate::path::Hop;
 use crate::renewing::{Changes, renew_rows};
 use sfm_base::Memory;
-use sfm_law::{Room, Swap, Term};
+use sfm_law::{Swap, Term};
 use sfm_reach::{Based, BitRows, Bits, note_at};
 use std::alloc::Global;
 
-/// The room of (u, v) at a base. After want of memory nothing is said of what is kept.
+/// How much of an amount can be exchanged at a base. After want of memory nothing is said of what is kept.
 pub(crate) fn room_kept<T: Term>(
     alloc: Global,
     at: &Based<'_, '_, T>,
     kept: &mut Option<T::Note>,
-    u: usize,
-    v: usize,
-) -> Result<Room, Memory>
+    swap: &Swap,
+) -> Result<i128, Memory>
     requires based { IsBased T.places T.value_of T.size_of at.now.term.now at.now.base.q
         at.now.base.x.now }
     requires noted { kept_fits T.fits at.now.term.now kept.old at.now.base.q at.now.base.x.now }
-    requires pair { IsPair u v at.now.base.x.now }
-    ensures room { IfOk result (IsRoom (times at.now.base.q (T.value_of at.now.term.now))
-        at.now.base.x.now u v) }
+    requires pair { IsPair swap.now.u swap.now.v at.now.base.x.now }
+    requires wanted { pos 0 ≤ℤ swap.now.a }
+    ensures room { IfOk result (IsCapacityUpto (times at.now.base.q (T.value_of at.now.term.now))
+        at.now.base.x.now swap.now.u swap.now.v swap.now.a) }
     ensures noted { OnOk result (kept_fits T.fits at.now.term.now kept.new at.now.base.q
         at.now.base.x.now) }
 {
     let mut note = note_at(alloc, at, kept.take())?;
-    let room = at.term.room_by(alloc, &at.base, &mut note, u, v)?;
+    let most = at.term.room_by(alloc, &at.base, &mut note, swap)?;
     *kept = Some(note);
-    Ok(room)
+    Ok(most)
 }
 
 /// What is kept beside the base to which an exchange leads. After want of memory nothing is said of it.

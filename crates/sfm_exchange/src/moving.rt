@@ -3,7 +3,6 @@
 // so it fits the bases at every step; rows may be claimed all along.
 ghost use Rattle.std.specs.{Prelude.{◌≡◌, ◌*◌, ◌^◌, ◌<◌, ◌≤◌, ℕ, ℤ, pos, ◌≤ℤ◌, length, slice_set, OnOk, IfOk}, List.{All}};
 ghost use Rattle.sfm_spec.specs.{Bounds.{IsAtMost, IsEntry}, Terms.{exchanged}, Families.{meanings}, Labels.{FallsAlong}, Walks.{IsWalkMove, base_at}};
-ghost use Rattle.sfm_law.specs.Room.{AtMostRoom};
 ghost use Rattle.sfm_exchange.specs.{Graph.{IsClaimed}, Hops.{CanExchange, IsMovable, Moves, AreNamed, AreInOrder, hop_at, steps_of}};
 
 use crate::graph::Graph;
@@ -11,7 +10,7 @@ use crate::kept::{move_kept, renew_kept, room_kept};
 use crate::path::{Hop, Path};
 use crate::sums::move_sums;
 use sfm_base::Memory;
-use sfm_law::{At, Room, Swap, Term};
+use sfm_law::{At, Swap, Term};
 use sfm_reach::{Based, renew, widen};
 use std::alloc::Global;
 
@@ -48,22 +47,11 @@ pub fn amount_of<T: Term>(
         let x = graph.bases.row(i);
         let base = At { q, x };
         let at = Based { term, base };
-        let room = room_kept(alloc, &at, note, hop.u, hop.v)?;
-        a = within(a, room);
+        let (u, v) = (hop.u, hop.v);
+        let swap = Swap { u, v, a };
+        a = room_kept(alloc, &at, note, &swap)?;
     }
     Ok(a)
-}
-
-// An amount, no more than the room.
-fn within(a: i128, room: Room) -> i128
-    ensures low { result ≤ℤ a }
-    ensures room { AtMostRoom result room }
-    ensures greatest { (b : ℤ) → b ≤ℤ a → AtMostRoom b room → b ≤ℤ result }
-{
-    match room {
-        Room::Upto(b) => a.min(b),
-        Room::Unbounded => a,
-    }
 }
 
 // One exchange of a term, and all that is kept with it.

@@ -8,13 +8,13 @@ use Rattle.sfm_kind.specs.Kinds.{kind_value, kind_size, kind-family, kind-submod
 use Rattle.sfm_kind.specs.declared.kind.Kind.{Kind}
 use Rattle.sfm_kind.proofs.Bounds.{kind-elements}
 use Rattle.sfm_law.specs.Based.{IsBased, IsPair, CanSwap}
-use Rattle.sfm_law.specs.Room.{IsRoom}
+use Rattle.sfm_law.specs.Room.{IsRoom, IsCapacityUpto}
 use Rattle.sfm_law.specs.declared.room.Room.{Room}
 use Rattle.sfm_flip.specs.Flipped.{negated}
 use Rattle.sfm_flip.specs.FlipLaws.{length-negated}
 use Rattle.sfm_flip.specs.Flips.{flip_value, flip_size}
 use Rattle.sfm_flip.specs.Known.{IsBaseOf}
-use Rattle.sfm_flip.proofs.Turning.{negated-small, flip-base, flip-base_to, flip-room, flip-within}
+use Rattle.sfm_flip.proofs.Turning.{negated-small, flip-base, flip-base_to, flip-room, flip-capacity, flip-within}
 
 module _ (kind : Kind) (q : ℤ) (factor : IsFactor q) (y : List ℤ) (sized : length y ≡ length (kind_places kind)) where
   pub base_from : IsBase (times q (flip_value kind)) y → IsBase (times q (kind_value kind)) (negated y)
@@ -47,6 +47,9 @@ module _ (kind : Kind) (q : ℤ) (y : List ℤ) (based : IsBased kind_places fli
 
     pub room_to : IsPair u v y → (room : Room) → IsRoom (times q (kind_value kind)) (negated y) v u room → IsRoom (times q (flip_value kind)) y u v room
     room_to pair room is = flip-room _ (kind_value kind) (kind-family kind) (kind-submodular kind) q based.factor.low y based.entries u v pair.from pair.onto pair.apart room is
+
+    pub capacity_to : IsPair u v y → (limit a : ℤ) → IsCapacityUpto (times q (kind_value kind)) (negated y) v u limit a → IsCapacityUpto (times q (flip_value kind)) y u v limit a
+    capacity_to pair limit a is = flip-capacity _ (kind_value kind) (kind-family kind) (kind-submodular kind) q based.factor.low y based.entries u v pair.from pair.onto pair.apart limit a is
 
     pub can_from : (a : ℤ) → CanSwap (times q (flip_value kind)) y u v a → CanSwap (times q (kind_value kind)) (negated y) v u a
     can_from a can = record {

@@ -7,10 +7,10 @@ use Rattle.sfm_spec.specs.Bounds.{IsAtMost, IsEntry, IsFactor}
 use Rattle.sfm_spec.specs.Sets.{complement, whole_set}
 use Rattle.sfm_spec.specs.Terms.{SetFunction, times, IsFamily, IsSubmodular, IsBase, HasRoom}
 use Rattle.sfm_spec.proofs.Scaled.{family-times, submodular-times, times-mono, times-comm}
-use Rattle.sfm_law.specs.Room.{IsRoom, IsWithinRoom}
+use Rattle.sfm_law.specs.Room.{IsRoom, IsWithinRoom, IsCapacityUpto}
 use Rattle.sfm_law.specs.declared.room.Room.{Room}
 use Rattle.sfm_flip.specs.Flipped.{flipped, negated}
-use Rattle.sfm_flip.specs.FlipLaws.{length-negated, turned-from, turned-to, room-to, within-from, has-room-to, has-room-from}
+use Rattle.sfm_flip.specs.FlipLaws.{length-negated, turned-from, turned-to, room-to, capacity-to, within-from, has-room-to, has-room-from}
 
 pub negated-at : (x : List ℤ) (i : ℕ) (d : ℤ) → i < length x → get_or (negated x) i d ≡ neg_ℤ (get_or x i (pos 0))
 negated-at x i d l = get_or-map neg_ℤ x i (pos 0) d l
@@ -38,6 +38,9 @@ module _ (k : ℕ) (f : SetFunction) (family : IsFamily k f) (law : IsSubmodular
   module _ (y : List ℤ) (sized : length y ≡ k) (u v : ℕ) (lu : u < length y) (lv : v < length y) (ne : u ≢ v) where
     pub flip-room : (room : Room) → IsRoom (times q f) (negated y) v u room → IsRoom (times q (flipped k f)) y u v room
     flip-room room is = room-to k f family law q family' law' y sized u v lu lv ne room is
+
+    pub flip-capacity : (limit a : ℤ) → IsCapacityUpto (times q f) (negated y) v u limit a → IsCapacityUpto (times q (flipped k f)) y u v limit a
+    flip-capacity limit a h = capacity-to k f family law q family' law' y sized u v lu lv ne limit a h
 
     pub flip-within : (a : ℤ) → IsWithinRoom (times q (flipped k f)) y u v a → IsWithinRoom (times q f) (negated y) v u a
     flip-within a h = within-from k f family law q family' law' y sized u v lu lv ne a h

@@ -14,7 +14,7 @@ use Rattle.sfm_spec.proofs.Sets.{has_or_not}
 use Rattle.sfm_spec.proofs.Tight.{some_of, is_some_of}
 use Rattle.sfm_spec.proofs.Extremes.{length-complement, in_complement, not_in_complement}
 use Rattle.sfm_spec.proofs.MoveOrder.{exchanged-first, exchanged-second, exchanged-other}
-use Rattle.sfm_law.specs.Room.{IsRoom, IsWithinRoom}
+use Rattle.sfm_law.specs.Room.{IsRoom, IsWithinRoom, IsCapacityUpto}
 use Rattle.sfm_law.specs.declared.room.Room.{Room}
 use Rattle.sfm_law.specs.declared.room.Room.TheVariants.{Upto, Unbounded}
 use Rattle.sfm_flip.specs.Flipped.{flipped, negated}
@@ -294,6 +294,15 @@ module _ (k : ℕ) (f : SetFunction) (family : IsFamily k f) (law : IsSubmodular
     pub room-from : (room : Room) → IsRoom (times q (flipped k f)) y u v room → IsRoom (times q f) (negated y) v u room
     room-from (Upto a) h = record { reached = moved-from a h.reached; greatest = λ b base. h.greatest b (moved-to b base) }
     room-from Unbounded h = ((λ a low. moved-from a (h.0 a low)), unsplit-from h.1)
+
+    -- and so it is up to a limit
+    pub capacity-to : (limit a : ℤ) → IsCapacityUpto (times q f) (negated y) v u limit a → IsCapacityUpto (times q (flipped k f)) y u v limit a
+    capacity-to limit a h = record {
+      low = h.low;
+      high = h.high;
+      reached = moved-to a h.reached;
+      greatest = λ b lb base. h.greatest b lb (moved-from b base);
+    }
 
     pub within-from : (a : ℤ) → IsWithinRoom (times q (flipped k f)) y u v a → IsWithinRoom (times q f) (negated y) v u a
     within-from a (room, is, most) = (room, room-from room is, most)

@@ -166,12 +166,13 @@ impl Term for Flip {
         alloc: Global,
         at: &At<'_>,
         note: &mut FlipNote,
-        u: usize,
-        v: usize,
-    ) -> Result<Room, Memory> {
+        swap: &Swap,
+    ) -> Result<i128, Memory> {
+        let Swap { u, v, a } = *swap;
+        let turned = Swap { u: v, v: u, a };
         let x = note.base.as_slice();
         self.term
-            .room_by(alloc, &At { q: at.q, x }, &mut note.inner, v, u)
+            .room_by(alloc, &At { q: at.q, x }, &mut note.inner, &turned)
     }
 
     fn moved(

@@ -2,9 +2,9 @@
 // by cases over the kinds (specs/Kinds.antt), so a kind that is added brings one case to each law, and one to the macro by
 // which the calls pass on. The plain kinds keep nothing beside a base: what is asked by a note is asked of them as without
 // one.
-ghost use Rattle.std.specs.Prelude.{◌≡◌, Bool, List, length, map, ℤ, ◌*ℤ◌, IfOk, IfSome};
-ghost use Rattle.sfm_spec.specs.{Bounds.{IsFactor}, Terms.{SetFunction}};
-ghost use Rattle.sfm_law.specs.Based.{IsBased};
+ghost use Rattle.std.specs.Prelude.{◌≡◌, Bool, List, length, map, ℤ, pos, ◌*ℤ◌, ◌≤ℤ◌, IfOk, IfSome};
+ghost use Rattle.sfm_spec.specs.{Bounds.{IsFactor}, Terms.{SetFunction, times}};
+ghost use Rattle.sfm_law.specs.{Based.{IsBased, IsPair}, Room.{IsCapacityUpto}};
 ghost use Rattle.sfm_kind.specs.{Meanings.{kind_places, IsValueOf, IsMeaningOf, size_by, IsStartOf}, Kinds.{kind_value, kind_size, kind_start, kind_lean_value, kind_lean_calls, kind_fits, kind-family, kind-submodular, kind-bounded, kind-starts, kind-starts_small, kind-starts_times}};
 
 use sfm_base::{Memory, Set};
@@ -194,6 +194,18 @@ macro_rules! by_note {
     };
 }
 
+/// How much of an amount can be exchanged at a base, told by the term alone.
+fn room_upto(alloc: Global, kind: &Kind, at: &At<'_>, swap: &Swap) -> Result<i128, Memory>
+    requires based { IsBased kind_places kind_value kind_size kind.now at.now.q at.now.x.now }
+    requires pair { IsPair swap.now.u swap.now.v at.now.x.now }
+    requires wanted { pos 0 ≤ℤ swap.now.a }
+    ensures { IfOk result (IsCapacityUpto (times at.now.q (kind_value kind.now)) at.now.x.now
+        swap.now.u swap.now.v swap.now.a) }
+{
+    let room = kind.room(alloc, at, swap.u, swap.v)?;
+    Ok(room.upto(swap.a))
+}
+
 impl Term for Kind {
     type Note = KindNote;
 
@@ -292,10 +304,9 @@ impl Term for Kind {
         alloc: Global,
         at: &At<'_>,
         note: &mut KindNote,
-        u: usize,
-        v: usize,
-    ) -> Result<Room, Memory> {
-        by_note!(self, note, term => term.room_by(alloc, at, note, u, v), _ => self.room(alloc, at, u, v))
+        swap: &Swap,
+    ) -> Result<i128, Memory> {
+        by_note!(self, note, term => term.room_by(alloc, at, note, swap), _ => room_upto(alloc, self, at, swap))
     }
 
     fn moved(

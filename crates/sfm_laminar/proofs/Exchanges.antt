@@ -13,7 +13,7 @@ use Rattle.sfm_spec.proofs.Sums.{share, sum_over-set}
 use Rattle.sfm_law.proofs.Places.{others_in}
 use Rattle.sfm_law.specs.Room.{IsReach}
 use Rattle.sfm_rank.proofs.Members.{has_or_out}
-use Rattle.sfm_rank.proofs.Bases.{IsMostAt, least_capacity, gives_room, room_gives}
+use Rattle.sfm_rank.proofs.Bases.{IsMostAt, own_capacity, gives_room, room_gives}
 use Rattle.sfm_laminar.specs.Masks.{mask, length-mask, sum_listed}
 use Rattle.sfm_laminar.specs.Groups.{AreGroups}
 use Rattle.sfm_laminar.specs.Crossing.{no_group, group_at}
@@ -102,11 +102,12 @@ module _ (k : ℕ) (q w : ℤ) (groups : List Group) (hq : pos 1 ≤ℤ q) (hw :
 
     pub laminar-capacity : (a : ℤ) → IsLeast q w groups x u v (length groups) a → IsCapacity (times q (laminar_value k w groups)) x u v a
     laminar-capacity a h =
-        least_capacity k (length groups) q w (low k q w groups hq hw ok) (IsWithinCaps groups) (rank k groups) (caps-matroid k groups ok) (caps-ranks k groups ok) (IsGroupMet q w groups) (laminar_tests k q w groups hq hw ok) x kx base u v ku kv ne a (record {
+        own_capacity k (length groups) q w (low k q w groups hq hw ok) (IsWithinCaps groups) (rank k groups) (caps-matroid k groups ok) (caps-ranks k groups ok) (IsGroupMet q w groups) (laminar_tests k q w groups hq hw ok) x kx base u v ku kv ne a (record {
+          under_limit = h.onto;
           under_v = h.onto;
           under_cap = h.from;
           under_most = λ i lt. (get_or x u (pos 0) +ℤ a, met_with i a lt h.onto (h.left i lt), omega (arith, ints));
-          reached = ⊎_elim (λ is. inl is) (λ rest. inr (⊎_elim (λ is. inl is) (λ (i, lt, split, is). inr (i, lt, get_or x u (pos 0) +ℤ slack_of q w x (group_at groups i), most i lt split, omega (arith, ints, is))) rest)) h.reached;
+          reached = inr (⊎_elim (λ is. inl is) (λ rest. inr (⊎_elim (λ is. inl is) (λ (i, lt, split, is). inr (i, lt, get_or x u (pos 0) +ℤ slack_of q w x (group_at groups i), most i lt split, omega (arith, ints, is))) rest)) h.reached);
         }) where
           most : (i : ℕ) → i < length groups → Splits (group_at groups i) u v → IsMostAt k (length groups) q w (low k q w groups hq hw ok) (IsWithinCaps groups) (rank k groups) (caps-matroid k groups ok) (caps-ranks k groups ok) (IsGroupMet q w groups) (laminar_tests k q w groups hq hw ok) x kx base u v ku kv ne i
               (get_or x u (pos 0) +ℤ slack_of q w x (group_at groups i))

@@ -234,10 +234,10 @@ impl<T: Plain> Term for T {
         _alloc: Global,
         at: &At<'_>,
         note: &mut T::Note,
-        u: usize,
-        v: usize,
-    ) -> Result<Room, Memory> {
-        Ok(self.room_of(at, Some(note), u, v))
+        swap: &Swap,
+    ) -> Result<i128, Memory> {
+        let room = self.room_of(at, Some(note), swap.u, swap.v);
+        Ok(room.upto(swap.a))
     }
 
     fn moved(

@@ -2,7 +2,7 @@
 // and a first base. Everything above speaks of terms by this trait alone.
 ghost use Rattle.std.specs.{Prelude.{◌≡◌, ◌↔◌, ℕ, ◌<◌, ◌^◌, Bool, List, length, map, ℤ, pos, neg_ℤ, ◌*ℤ◌, ◌≤ℤ◌, IfOk, IfSome, IsOk, OnOk, IsTrue, Some}, List.{All}};
 ghost use Rattle.sfm_spec.specs.{Bounds.{IsEntry, IsFactor}, Rows.{Depends}, Terms.{SetFunction, times, IsBase, IsFamily, IsSubmodular, exchanged}};
-ghost use Rattle.sfm_law.specs.{Based.{IsBased, IsPair, CanSwap}, Room.{IsRoom, IsReach}};
+ghost use Rattle.sfm_law.specs.{Based.{IsBased, IsPair, CanSwap}, Room.{IsRoom, IsCapacityUpto, IsReach}};
 
 use crate::at::{At, Lead, Swap};
 use crate::room::Room;
@@ -125,23 +125,25 @@ pub trait Term {
             lead.now.from to.new) }
         ensures noted { OnOk result (fits self.now note.new at.now.q at.now.x.now) };
 
-    /// The room of (u, v) at a base, by a note that fits it, which fits it still. After want of memory nothing is said
-    /// of the note.
+    /// How much of an amount a place can be raised by and another one lowered at a base: their room, as far as it is wanted. It is
+    /// told by a note that fits the base, which fits it still. After want of memory nothing is said of the note.
     fn room_by(
         &self,
         alloc: Global,
         at: &At<'_>,
         _note: &mut Self::Note,
-        u: usize,
-        v: usize,
-    ) -> Result<Room, Memory>
+        swap: &Swap,
+    ) -> Result<i128, Memory>
         requires based { IsBased places value_of size_of self.now at.now.q at.now.x.now }
         requires noted { fits self.now _note.old at.now.q at.now.x.now }
-        requires pair { IsPair u v at.now.x.now }
-        ensures room { IfOk result (IsRoom (times at.now.q (value_of self.now)) at.now.x.now u v) }
+        requires pair { IsPair swap.now.u swap.now.v at.now.x.now }
+        requires wanted { pos 0 ≤ℤ swap.now.a }
+        ensures room { IfOk result (IsCapacityUpto (times at.now.q (value_of self.now)) at.now.x.now
+            swap.now.u swap.now.v swap.now.a) }
         ensures noted { OnOk result (fits self.now _note.new at.now.q at.now.x.now) }
     {
-        self.room(alloc, at, u, v)
+        let room = self.room(alloc, at, swap.u, swap.v)?;
+        Ok(room.upto(swap.a))
     }
 
     /// Brings a note that fits a base up to the base that an exchange makes. After want of memory nothing is said of the note.

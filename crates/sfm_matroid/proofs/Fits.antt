@@ -1,7 +1,7 @@
 -- Amounts of a base fit 128 bits, and so does what is left of a number.
-use Rattle.std.proofs.Common.{◌≡◌, ◌≢◌, ◌^◌, ℕ, ◌<◌, List, length, get_or, set, ℤ, pos, ◌-ℤ◌, ◌*ℤ◌, ◌≤ℤ◌, to_z, of_z, arith, ⊎_elim, Fits, FitsSigned, length-set, get_or-set_other, get_or-set_same}
+use Rattle.std.proofs.Common.{◌≡◌, ◌≢◌, ◌⊎◌, inl, inr, ◌^◌, ℕ, ◌<◌, List, length, get_or, set, ℤ, pos, ◌-ℤ◌, ◌*ℤ◌, ◌≤ℤ◌, to_z, of_z, arith, ⊎_elim, Fits, FitsSigned, length-set, get_or-set_other, get_or-set_same}
 use Rattle.std.proofs.lemmas.Bool.{cases_eq}
-use Rattle.std.proofs.lemmas.Int.{ints, clamps, to_z-of_z}
+use Rattle.std.proofs.lemmas.Int.{ints, clamps, by_lt_z, to_z-of_z}
 use Rattle.std.specs.Int.{int_min}
 use Rattle.std.specs.List.{All}
 use mir.Syntax.{w64, w128}
@@ -50,14 +50,23 @@ without_amounts x v all k d lt =
     (λ (ne : k ≢ v). rw (get_or-set_other x v k (pos 0) d ne) (all k d (omega (arith, l, lt))))
     (cases_eq k v)
 
--- what u is raised by, up to the lesser of what v has and what it lacks itself of a number, where v has nothing more
-pub raise_upto : (c : ℤ) (x : List ℤ) (u v : ℕ) (limit : ℤ) → AreCapped c x → u < length x → v < length x → u ≢ v → limit ≡ int_min (get_or x v (pos 0)) (c -ℤ get_or x u (pos 0)) → IsRaise x u v limit
-raise_upto c x u v limit all from onto ne is =
+-- the least of three numbers is one of them
+pub limit_of : (a b c g : ℤ) → g ≡ int_min a (int_min b c) → (T : Type 0) → (g ≡ a) ⊎ ((g ≡ b) ⊎ ((g ≡ c) ⊎ T))
+limit_of a b c g is T = by_lt_z a (int_min b c)
+    (λ first. inl (omega (arith, ints, clamps, is, first)))
+    (λ rest. by_lt_z b c
+    (λ second. inr (inl (omega (arith, ints, clamps, is, rest, second))))
+    (λ third. inr (inr (inl (omega (arith, ints, clamps, is, rest, third))))))
+
+-- what u is raised by, up to what is wanted, to what v has and to what it lacks itself of a number, where v has nothing more
+pub raise_upto : (c : ℤ) (x : List ℤ) (u v : ℕ) (wanted limit : ℤ) → AreCapped c x → u < length x → v < length x → u ≢ v → pos 0 ≤ℤ wanted
+    → limit ≡ int_min wanted (int_min (get_or x v (pos 0)) (c -ℤ get_or x u (pos 0))) → IsRaise x u v limit
+raise_upto c x u v wanted limit all from onto ne some is =
     let a = all.within u (pos 0) from in
     let b = all.within v (pos 0) onto in
     let e = get_or-set_other x v u (pos 0) (pos 0) ne in
     let high = all.high in
-    let low : pos 0 ≤ℤ limit = omega (arith, ints, clamps, is, a.1, b.0) in
+    let low : pos 0 ≤ℤ limit = omega (arith, ints, clamps, is, some, a.1, b.0) in
     record {
       from = from;
       onto = onto;

@@ -1,7 +1,7 @@
 -- How much can be exchanged at a base of a graphic term, and to whom an edge has room: by a split in the test of one vertex, its
 -- root. Parts with an edge have its ends, so no test asks less of them than that of an end. Where an edge u has room to another
 -- one e, a part with u and without e has something left in each test, so the test of an end of e tells what u may get one of.
-use Rattle.std.proofs.Common.{◌≡◌, ◌≢◌, ℕ, ◌<◌, Bool, false, List, [], ◌∷◌, length, get_or, set, ℤ, pos, ◌+ℤ◌, ◌-ℤ◌, ◌*ℤ◌, ◌≤ℤ◌, ◌<ℤ◌, refl, sym, ◌∙◌, arith, inl, inr, ⊎_elim, length-set, get_or-set_other, get_or-set_same}
+use Rattle.std.proofs.Common.{◌≡◌, ◌≢◌, ℕ, ◌<◌, Bool, false, List, [], ◌∷◌, length, get_or, set, ℤ, pos, ◌+ℤ◌, ◌-ℤ◌, ◌*ℤ◌, ◌≤ℤ◌, ◌<ℤ◌, refl, sym, ◌∙◌, arith, inr, ⊎_elim, length-set, get_or-set_other, get_or-set_same}
 use Rattle.std.proofs.lemmas.Bool.{cases_eq, cases_lt, false≢true}
 use Rattle.std.proofs.lemmas.Int.{ints, clamps, by_lt_z}
 use Rattle.std.specs.Int.{int_min}
@@ -14,9 +14,9 @@ use Rattle.sfm_spec.proofs.Exchange.{base_between}
 use Rattle.sfm_spec.proofs.Sums.{share, length-exchanged, sum_over-exchanged}
 use Rattle.sfm_assign.specs.Splits.{CanBeMet}
 use Rattle.sfm_assign.specs.Lenders.{IsMostUpto}
-use Rattle.sfm_law.specs.Room.{IsReach}
+use Rattle.sfm_law.specs.Room.{IsReach, IsCapacityUpto}
 use Rattle.sfm_law.proofs.Monotone.{AreCounts}
-use Rattle.sfm_rank.proofs.Bases.{raised-counts, lower, least_capacity, base_counts, given-counts, gives_room, room_gives}
+use Rattle.sfm_rank.proofs.Bases.{raised-counts, lower, least_capacity, whole_capacity, base_counts, given-counts, gives_room, room_gives}
 use Rattle.sfm_matroid.specs.Amounts.{CanHold}
 use Rattle.sfm_matroid.specs.Cuts.{IsWithinEnds}
 use Rattle.sfm_matroid.specs.Forests.{forest-matroid, graphic-ranks}
@@ -26,6 +26,7 @@ use Rattle.sfm_matroid.specs.Graphs.{graphic_rank, graphic_value}
 use Rattle.sfm_matroid.specs.Notes.{end_demands}
 use Rattle.sfm_matroid.specs.Numbered.{IsEndOf, numbered, end_lists, vertex_capacities, vertex_count}
 use Rattle.sfm_matroid.specs.declared.graphic.Graphic.{Graphic}
+use Rattle.sfm_matroid.proofs.Fits.{limit_of}
 use Rattle.sfm_matroid.proofs.GraphicBases.{base_tests, capped_base}
 use Rattle.sfm_matroid.proofs.MatroidTests.{numbered_tests}
 use Rattle.sfm_matroid.proofs.Numbering.{length-vertices, vertices_bounded}
@@ -142,18 +143,18 @@ module _ (k : ℕ) (q w : ℤ) (edges : List Edge) (same : length edges ≡ k) (
     with-counts : (a : ℤ) → pos 0 ≤ℤ a → AreCounts (with_u a)
     with-counts a h = raised-counts (length edges) (vertex_count edges) q w low (IsForest edges) (graphic_rank edges) (forest-matroid edges) (graphic-ranks edges) (λ a x. IsWithinEnds (numbered edges) (vertex_count edges) (q *ℤ w) x a) (numbered_tests edges q w low) x sized base u v ku kv ne a h
 
-    -- the most that u gets in the test of an end of it, up to what v has and what u lacks of q·w, is the room of (u, v)
-    pub grown_capacity : (r : ℕ) → IsEndOf (numbered edges) u r → (g : ℤ) → IsMostUpto (end_demands (numbered edges) (vertex_count edges) (q *ℤ w) (set x v (pos 0)) r) u (int_min (get_or x v (pos 0)) ((q *ℤ w) -ℤ get_or x u (pos 0))) g
-        → IsCapacity (times q (graphic_value w edges)) x u v g
-    grown_capacity r end g most = least_capacity (length edges) (vertex_count edges) q w low (IsForest edges) (graphic_rank edges) (forest-matroid edges) (graphic-ranks edges) (λ a x. IsWithinEnds (numbered edges) (vertex_count edges) (q *ℤ w) x a) (numbered_tests edges q w low) x sized base u v ku kv ne g (record {
-      under_v = let h = most.high in omega (arith, ints, clamps, h);
-      under_cap = let h = most.high in omega (arith, ints, clamps, h);
+    -- the most that u gets in the test of an end of it, up to what is wanted, what v has and what u lacks of q·w, is the room of (u, v) as far as it is wanted
+    pub grown_capacity : (r : ℕ) → IsEndOf (numbered edges) u r → (wanted limit g : ℤ) → limit ≡ int_min wanted (int_min (get_or x v (pos 0)) ((q *ℤ w) -ℤ get_or x u (pos 0)))
+        → IsMostUpto (end_demands (numbered edges) (vertex_count edges) (q *ℤ w) (set x v (pos 0)) r) u limit g
+        → IsCapacityUpto (times q (graphic_value w edges)) x u v wanted g
+    grown_capacity r end wanted limit g is most = least_capacity (length edges) (vertex_count edges) q w low (IsForest edges) (graphic_rank edges) (forest-matroid edges) (graphic-ranks edges) (λ a x. IsWithinEnds (numbered edges) (vertex_count edges) (q *ℤ w) x a) (numbered_tests edges q w low) x sized base u v ku kv ne wanted g (let l = most.low in let h = most.high in omega (arith, ints, clamps, is, l, h)) (record {
+      under_limit = let h = most.high in omega (arith, ints, clamps, is, h);
+      under_v = let h = most.high in omega (arith, ints, clamps, is, h);
+      under_cap = let h = most.high in omega (arith, ints, clamps, is, h);
       under_most = λ t lt. (get_or x u (pos 0) +ℤ g, own_end u r xu end (with_u (get_or x u (pos 0) +ℤ g)) (less_raised x u v (get_or x u (pos 0) +ℤ g) xu xv (counts v xv)) met t lt, omega (arith, ints));
-      reached = by_lt_z g (int_min (get_or x v (pos 0)) ((q *ℤ w) -ℤ get_or x u (pos 0)))
-          (λ less. inr (inr (r, lr, get_or x u (pos 0) +ℤ g, record { reached = met; greatest = greatest less }, omega (arith, ints))))
-          (λ ge. let h = most.high in by_lt_z (get_or x v (pos 0)) ((q *ℤ w) -ℤ get_or x u (pos 0))
-          (λ first. inl (omega (arith, ints, clamps, h, ge, first)))
-          (λ second. inr (inl (omega (arith, ints, clamps, h, ge, second)))));
+      reached = by_lt_z g limit
+          (λ less. inr (inr (inr (r, lr, get_or x u (pos 0) +ℤ g, record { reached = met; greatest = greatest less }, omega (arith, ints)))))
+          (λ ge. let h = most.high in let e : g ≡ limit = omega (arith, ints, ge, h) in limit_of wanted (get_or x v (pos 0)) ((q *ℤ w) -ℤ get_or x u (pos 0)) g (e ∙ is) _);
     }) where
       lr : r < vertex_count edges
       lr = root_below u r xu end
@@ -165,7 +166,7 @@ module _ (k : ℕ) (q w : ℤ) (edges : List Edge) (same : length edges ≡ k) (
       met = passed (with_u (get_or x u (pos 0) +ℤ g)) (with-places (get_or x u (pos 0) +ℤ g)) r lr (rw same_u at most.reached)
 
       -- with one more than the most, the test is not met
-      greatest : g <ℤ int_min (get_or x v (pos 0)) ((q *ℤ w) -ℤ get_or x u (pos 0)) → (b : ℤ) → Passes edges (q *ℤ w) (with_u b) r → b ≤ℤ (get_or x u (pos 0) +ℤ g)
+      greatest : g <ℤ limit → (b : ℤ) → Passes edges (q *ℤ w) (with_u b) r → b ≤ℤ (get_or x u (pos 0) +ℤ g)
       greatest less b pb = by_lt_z (get_or x u (pos 0) +ℤ g) b
           (λ over.
           let cu = counts u xu in
@@ -177,6 +178,10 @@ module _ (k : ℕ) (q w : ℤ) (edges : List Edge) (same : length edges ≡ k) (
           let h = most.greatest (g +ℤ pos 1) (omega (arith, ints, lg)) (omega (arith, ints, less)) (rw same_u can) in
           absurd (omega (arith, ints, h)))
           (λ ge. ge)
+
+    -- up to what v has, this is the room
+    pub split_room : (g : ℤ) → IsCapacityUpto (times q (graphic_value w edges)) x u v (get_or x v (pos 0)) g → IsCapacity (times q (graphic_value w edges)) x u v g
+    split_room g most = whole_capacity (length edges) (vertex_count edges) q w low (IsForest edges) (graphic_rank edges) (forest-matroid edges) (graphic-ranks edges) (λ a x. IsWithinEnds (numbered edges) (vertex_count edges) (q *ℤ w) x a) (numbered_tests edges q w low) x sized base u v ku kv ne g most
 
   -- a row in the split with the root at an end of an edge to which u has room, or which it is, is the reach of u
   pub row_reach : (e r u : ℕ) → e < length x → IsEndOf (numbered edges) e r → u < length x → Depends (times q (graphic_value w edges)) x u e → (to : List Bool) → length to ≡ length x

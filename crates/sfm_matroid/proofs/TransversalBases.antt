@@ -1,6 +1,6 @@
 -- Bases of a transversal term by the test of its code, and how much can be exchanged at one: by the most that an element gets
 -- besides in the test, without another element; and to whom an element has room, by those that can lend to it.
-use Rattle.std.proofs.Common.{◌≡◌, ◌≢◌, ◌⊎◌, ◌↔◌, ℕ, ◌<◌, ◌≤◌, ◌^◌, Bool, List, length, get_or, set, replicate, ℤ, pos, ◌+ℤ◌, ◌-ℤ◌, ◌*ℤ◌, ◌≤ℤ◌, ◌<ℤ◌, to_z, of_z, refl, sym, ap, ◌∙◌, arith, inl, inr, ⊎_elim, get_or-set_other}
+use Rattle.std.proofs.Common.{◌≡◌, ◌≢◌, ◌↔◌, ℕ, ◌<◌, ◌≤◌, ◌^◌, Bool, List, length, get_or, set, replicate, ℤ, pos, ◌+ℤ◌, ◌-ℤ◌, ◌*ℤ◌, ◌≤ℤ◌, ◌<ℤ◌, to_z, of_z, refl, sym, ap, ◌∙◌, arith, inr, get_or-set_other}
 use Rattle.std.specs.Int.{int_min}
 use mir.Syntax.{w128}
 use Rattle.std.specs.List.{All}
@@ -10,9 +10,9 @@ use Rattle.std.proofs.lemmas.List.Elements.{All-replicate}
 use Rattle.sfm_spec.specs.Bounds.{IsFactor}
 use Rattle.sfm_spec.specs.Terms.{times, IsBase, IsCapacity, HasRoom, exchanged}
 use Rattle.sfm_spec.proofs.Sums.{length-exchanged}
-use Rattle.sfm_law.specs.Room.{IsReach}
+use Rattle.sfm_law.specs.Room.{IsReach, IsCapacityUpto}
 use Rattle.sfm_law.proofs.Fits.{product_low}
-use Rattle.sfm_rank.proofs.Bases.{IsTold, base_counts, base_told, told_base, raised-places, raised-counts, met_now, lower, least_capacity, given-counts, gives_room, room_gives}
+use Rattle.sfm_rank.proofs.Bases.{IsTold, base_counts, base_told, told_base, raised-places, raised-counts, met_now, lower, least_capacity, whole_capacity, given-counts, gives_room, room_gives}
 use Rattle.sfm_matroid.specs.Givers.{IsGiver, IsRowIn}
 use Rattle.sfm_matroid.proofs.Lending.{reach_row}
 use Rattle.sfm_spec.specs.Kinds.{IsMatchable}
@@ -25,14 +25,11 @@ use Rattle.sfm_matroid.specs.Matchings.{matching-matroid}
 use Rattle.sfm_matroid.specs.Slots.{IsWithinSlots, transversal_rank, transversal_value, transversal_size}
 use Rattle.sfm_matroid.specs.Transversals.{transversal-ranks}
 use Rattle.sfm_matroid.specs.declared.transversal.Transversal.{Transversal}
-use Rattle.sfm_matroid.proofs.Fits.{amounts_count, capped}
+use Rattle.sfm_matroid.proofs.Fits.{amounts_count, capped, limit_of}
 use Rattle.sfm_matroid.proofs.Matched.{slots_each}
 use Rattle.sfm_matroid.proofs.MatroidTests.{transversal_tests}
 use Rattle.sfm_matroid.proofs.Passed.{slot_amounts_passed}
 use Rattle.sfm_matroid.proofs.SplitTests.{split_within_slots, within_slots_split}
-
-one_of : (r a b : ℤ) → r ≡ int_min a b → (r ≡ a) ⊎ (r ≡ b)
-one_of r a b e = by_lt_z a b (λ lower. inl (omega (arith, ints, clamps, e, lower))) (λ more. inr (omega (arith, ints, clamps, e, more)))
 
 module _ (k : ℕ) (q w : ℤ) (entries : List (List ℕ)) (m : ℕ) (exist : All (All (λ v. v < m)) entries) (same : length entries ≡ k) (low : pos 0 ≤ℤ (q *ℤ w)) (x : List ℤ) (kx : length x ≡ k) where
   sized : length x ≡ length entries
@@ -107,21 +104,27 @@ module _ (k : ℕ) (q w : ℤ) (entries : List (List ℕ)) (m : ℕ) (exist : Al
         omega (arith, ints, h))
         (λ ge. omega (arith, ints, ge))
 
-    pub grown_capacity : (limit g : ℤ) → limit ≡ int_min (get_or x v (pos 0)) ((q *ℤ w) -ℤ has_u) → IsMostUpto rest u limit g → IsCapacity (times q (transversal_value w entries)) x u v g
-    grown_capacity limit g is most = least_capacity (length entries) 1 q w low (IsMatchable entries) (transversal_rank entries) (matching-matroid (length entries) entries) (transversal-ranks entries) (λ a x. IsWithinSlots entries m (q *ℤ w) x) (transversal_tests entries m (slots_each entries m exist) q w low) x sized base u v ku kv ne g (record {
+    pub grown_capacity : (wanted limit g : ℤ) → limit ≡ int_min wanted (int_min (get_or x v (pos 0)) ((q *ℤ w) -ℤ has_u)) → IsMostUpto rest u limit g
+        → IsCapacityUpto (times q (transversal_value w entries)) x u v wanted g
+    grown_capacity wanted limit g is most = least_capacity (length entries) 1 q w low (IsMatchable entries) (transversal_rank entries) (matching-matroid (length entries) entries) (transversal-ranks entries) (λ a x. IsWithinSlots entries m (q *ℤ w) x) (transversal_tests entries m (slots_each entries m exist) q w low) x sized base u v ku kv ne wanted g (let l = most.low in let h = most.high in omega (arith, ints, clamps, is, l, h)) (record {
+      under_limit = let h = most.high in omega (arith, ints, clamps, is, h);
       under_v = let h = most.high in omega (arith, ints, clamps, is, h);
       under_cap = let h = most.high in omega (arith, ints, clamps, is, h);
       under_most = λ t lt. (has_u +ℤ g, met, omega (arith, ints));
       reached = by_lt_z g limit
-          (λ less. inr (inr (0, omega arith, has_u +ℤ g, record { reached = met; greatest = got_most limit g most less }, omega (arith, ints))))
-          (λ ge. let h = most.high in let e : g ≡ limit = omega (arith, ints, ge, h) in ⊎_elim (λ o. inl (e ∙ o)) (λ o. inr (inl (e ∙ o))) (one_of limit (get_or x v (pos 0)) ((q *ℤ w) -ℤ has_u) is));
+          (λ less. inr (inr (inr (0, omega arith, has_u +ℤ g, record { reached = met; greatest = got_most limit g most less }, omega (arith, ints)))))
+          (λ ge. let h = most.high in let e : g ≡ limit = omega (arith, ints, ge, h) in limit_of wanted (get_or x v (pos 0)) ((q *ℤ w) -ℤ has_u) g (e ∙ is) _);
     }) where
       met : IsWithinSlots entries m (q *ℤ w) (with_u (has_u +ℤ g))
       met = split_within_slots entries m exist (q *ℤ w) (with_u (has_u +ℤ g)) (places (has_u +ℤ g)) (rw rest_u at most.reached)
 
-    -- nothing, where v has nothing or u has all that it may
-    pub no_capacity : int_min (get_or x v (pos 0)) ((q *ℤ w) -ℤ has_u) ≡ pos 0 → IsCapacity (times q (transversal_value w entries)) x u v (pos 0)
-    no_capacity none = grown_capacity (pos 0) (pos 0) (sym none) (record {
+    -- up to what v has, this is the room
+    pub split_room : (g : ℤ) → IsCapacityUpto (times q (transversal_value w entries)) x u v (get_or x v (pos 0)) g → IsCapacity (times q (transversal_value w entries)) x u v g
+    split_room g most = whole_capacity (length entries) 1 q w low (IsMatchable entries) (transversal_rank entries) (matching-matroid (length entries) entries) (transversal-ranks entries) (λ a x. IsWithinSlots entries m (q *ℤ w) x) (transversal_tests entries m (slots_each entries m exist) q w low) x sized base u v ku kv ne g most
+
+    -- nothing, where nothing is wanted, v has nothing or u has all that it may
+    pub no_capacity : (wanted : ℤ) → int_min wanted (int_min (get_or x v (pos 0)) ((q *ℤ w) -ℤ has_u)) ≡ pos 0 → IsCapacityUpto (times q (transversal_value w entries)) x u v wanted (pos 0)
+    no_capacity wanted none = grown_capacity wanted (pos 0) (pos 0) (sym none) (record {
       low = omega (arith, ints);
       high = omega (arith, ints);
       reached = let e : (get_or (set x v (pos 0)) u (pos 0) +ℤ pos 0) ≡ has_u = let r = rest_u in omega (arith, ints, r) in rw e (split has_u has_u-low with_now);

@@ -304,7 +304,9 @@ impl Term for Graphic {
     /// The room of (u, v) at a base, by a note that is made for it.
     fn room(&self, alloc: Global, at: &At<'_>, u: usize, v: usize) -> Result<Room, Memory> {
         let mut note = self.note(alloc, at)?;
-        self.room_by(alloc, at, &mut note, u, v)
+        let swap = Swap { u, v, a: at.x[v] };
+        let most = self.room_by(alloc, at, &mut note, &swap)?;
+        Ok(Room::Upto(most))
     }
 
     /// Writes the places other than u to which u has room at a base, by a note that is made for it.
@@ -341,23 +343,22 @@ impl Term for Graphic {
         Ok(())
     }
 
-    /// The room of (u, v) at a base, by a second split beside the one that is kept, which is brought to what stays without v, with
-    /// the root at an end of u, and stays in the note.
+    /// How much of an amount u can get of v at a base, by a second split beside the one that is kept, which is brought to what stays
+    /// without v, with the root at an end of u, and stays in the note.
     fn room_by(
         &self,
         alloc: Global,
         at: &At<'_>,
         note: &mut RootSplit,
-        u: usize,
-        v: usize,
-    ) -> Result<Room, Memory> {
+        swap: &Swap,
+    ) -> Result<i128, Memory> {
         let cap = cap_of(at.q, self.w);
-        let root = self.end_near(note.root, u);
-        let pull = pull_of(at.x, cap, u, v);
+        let root = self.end_near(note.root, swap.u);
+        let pull = pull_of(at.x, cap, swap);
         let held = capacities(alloc, self.graph.vertices, cap, root)?;
         note.spare_root = root;
         let most = note.pair.raise_spare(alloc, &held, at.x, &pull)?;
-        Ok(Room::Upto(most))
+        Ok(most)
     }
 
     /// Brings what is kept beside a base to the exchanged one, with the root at an end of the place that is raised: the spare

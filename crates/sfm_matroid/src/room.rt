@@ -1,7 +1,9 @@
 // What the room of a pair at a base is found with: a split of what stays without the one that gives, in which the one that gets is
-// raised as far as all others leave room, up to what the other has and to what it lacks itself of the number that none exceeds.
-ghost use Rattle.std.specs.{Prelude.{◌≡◌, ◌≢◌, ◌<◌, length, slice_set, slice_index_or, pos, ◌-ℤ◌, IfOk}, Int.{int_min}};
+// raised as far as all others leave room, up to what is wanted, what the other has and what it lacks itself of the number that
+// none exceeds.
+ghost use Rattle.std.specs.{Prelude.{◌≡◌, ◌≢◌, ◌<◌, length, slice_set, slice_index_or, pos, ◌-ℤ◌, ◌≤ℤ◌, IfOk}, Int.{int_min}};
 ghost use Rattle.sfm_spec.specs.Terms.{exchanged};
+ghost use Rattle.sfm_law.specs.Based.{IsPair};
 ghost use Rattle.sfm_assign.specs.Lenders.{with_more, IsMostUpto};
 ghost use Rattle.sfm_matroid.specs.Amounts.{AreCapped, CanMove, IsRaise, IsBeside, CanHold, rest_of};
 
@@ -18,19 +20,20 @@ pub(crate) struct Pull {
     pub limit: i128,
 }
 
-/// What u may get of v: the lesser of what v has and what u lacks of a number.
-pub(crate) fn pull_of(x: &[i128], cap: i128, u: usize, v: usize) -> Pull
+/// What u may get of v: the least of what is wanted, what v has and what u lacks of a number.
+pub(crate) fn pull_of(x: &[i128], cap: i128, swap: &Swap) -> Pull
     requires capped { AreCapped cap x.now }
-    requires from { u < length x.now }
-    requires onto { v < length x.now }
-    requires apart { u ≢ v }
-    ensures u { result.u ≡ u }
-    ensures v { result.v ≡ v }
-    ensures limit { result.limit ≡ int_min (slice_index_or x.now v (pos 0))
-        (cap -ℤ slice_index_or x.now u (pos 0)) }
-    ensures raise { IsRaise x.now u v result.limit }
+    requires pair { IsPair swap.now.u swap.now.v x.now }
+    requires wanted { pos 0 ≤ℤ swap.now.a }
+    ensures u { result.u ≡ swap.now.u }
+    ensures v { result.v ≡ swap.now.v }
+    ensures limit { result.limit ≡ int_min swap.now.a (int_min
+        (slice_index_or x.now swap.now.v (pos 0))
+        (cap -ℤ slice_index_or x.now swap.now.u (pos 0))) }
+    ensures raise { IsRaise x.now swap.now.u swap.now.v result.limit }
 {
-    let limit = x[v].min(cap - x[u]);
+    let Swap { u, v, a } = *swap;
+    let limit = a.min(x[v].min(cap - x[u]));
     Pull { u, v, limit }
 }
 

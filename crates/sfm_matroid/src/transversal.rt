@@ -206,7 +206,9 @@ impl Term for Transversal {
     /// The room of (u, v) at a base, by a note that is made for it.
     fn room(&self, alloc: Global, at: &At<'_>, u: usize, v: usize) -> Result<Room, Memory> {
         let mut note = self.note(alloc, at)?;
-        self.room_by(alloc, at, &mut note, u, v)
+        let swap = Swap { u, v, a: at.x[v] };
+        let most = self.room_by(alloc, at, &mut note, &swap)?;
+        Ok(Room::Upto(most))
     }
 
     /// Writes the places other than u to which u has room at a base, by a note that is made for it.
@@ -236,23 +238,22 @@ impl Term for Transversal {
         Ok(())
     }
 
-    /// The room of (u, v) at a base, by a second split beside the one that is kept, which stays. The second one, with nothing at v
-    /// and as much more at u, is left as the spare.
+    /// How much of an amount u can get of v at a base, by a second split beside the one that is kept, which stays. The second one,
+    /// with nothing at v and as much more at u, is left as the spare.
     fn room_by(
         &self,
         alloc: Global,
         at: &At<'_>,
         note: &mut SlotSplit,
-        u: usize,
-        v: usize,
-    ) -> Result<Room, Memory> {
+        swap: &Swap,
+    ) -> Result<i128, Memory> {
         let cap = cap_of(at.q, self.w);
-        let pull = pull_of(at.x, cap, u, v);
+        let pull = pull_of(at.x, cap, swap);
         if pull.limit == 0 {
-            return Ok(Room::Upto(0));
+            return Ok(0);
         }
         let most = note.pair.raise_spare(alloc, &note.capacities, at.x, &pull)?;
-        Ok(Room::Upto(most))
+        Ok(most)
     }
 
     /// Brings the spare split, or else the one that is kept, to the exchanged base.

@@ -9,6 +9,7 @@ use Rattle.std.specs.List.{All}
 use Rattle.sfm_spec.specs.Bounds.{total_of}
 use Rattle.sfm_spec.specs.Sets.{Has, whole_set, sum_over}
 use Rattle.sfm_spec.specs.Terms.{times, IsBase, IsCapacity, HasRoom, exchanged}
+use Rattle.sfm_law.specs.Room.{IsCapacityUpto}
 use Rattle.sfm_spec.proofs.Scaled.{times-mono, times-assoc}
 use Rattle.sfm_spec.proofs.Search.{within_whole}
 use Rattle.sfm_spec.proofs.Sums.{share, sum_over-set, length-exchanged, sum_over-exchanged}
@@ -146,12 +147,13 @@ module _ (k n : ℕ) (q w : ℤ) (low : pos 0 ≤ℤ (q *ℤ w)) (IsIndependent 
         pub reached : Meets a (raised r)
         pub greatest : (b : ℤ) → Meets a (raised b) → b ≤ℤ r
 
-      -- the least of what v has, what u lacks of q·w, and what u lacks of the most of each test
-      pub record IsLeastRoom (a : ℤ) : Type 0 where
+      -- the least of a limit, what v has, what u lacks of q·w, and what u lacks of the most of each test
+      pub record IsLeastRoom (limit a : ℤ) : Type 0 where
+        pub under_limit : a ≤ℤ limit
         pub under_v : a ≤ℤ get_or x v (pos 0)
         pub under_cap : a ≤ℤ ((q *ℤ w) -ℤ get_or x u (pos 0))
         pub under_most : (t : ℕ) → t < n → (r : ℤ) × Meets t (raised r) × (a ≤ℤ (r -ℤ get_or x u (pos 0)))
-        pub reached : (a ≡ get_or x v (pos 0)) ⊎ ((a ≡ ((q *ℤ w) -ℤ get_or x u (pos 0))) ⊎ ((t : ℕ) × (t < n) × (r : ℤ) × IsMostAt t r × (a ≡ (r -ℤ get_or x u (pos 0)))))
+        pub reached : (a ≡ limit) ⊎ ((a ≡ get_or x v (pos 0)) ⊎ ((a ≡ ((q *ℤ w) -ℤ get_or x u (pos 0))) ⊎ ((t : ℕ) × (t < n) × (r : ℤ) × IsMostAt t r × (a ≡ (r -ℤ get_or x u (pos 0))))))
 
       pub raised-places : (r : ℤ) → length (raised r) ≡ k
       raised-places r = length-set (set x v (pos 0)) u r ∙ (length-set x v (pos 0) ∙ sized)
@@ -214,13 +216,16 @@ module _ (k n : ℕ) (q w : ℤ) (low : pos 0 ≤ℤ (q *ℤ w)) (IsIndependent 
       pub met_nothing : (t : ℕ) → t < n → Meets t (raised (pos 0))
       met_nothing t lt = lower t (pos 0) (get_or x u (pos 0)) lt (omega (arith, ints)) (counts u (omega (arith, sized, ku))) (met_now t lt)
 
-      least-low : (a : ℤ) → IsLeastRoom a → pos 0 ≤ℤ a
-      least-low a least = ⊎_elim
+      least-low : (limit a : ℤ) → pos 0 ≤ℤ limit → IsLeastRoom limit a → pos 0 ≤ℤ a
+      least-low limit a some least = ⊎_elim
+          (λ e. omega (arith, ints, e, some))
+          (λ others. ⊎_elim
           (λ e. let h = counts v (omega (arith, sized, kv)) in omega (arith, ints, e, h))
           (λ rest. ⊎_elim
           (λ e. let h = passes.capped u ku in omega (arith, ints, e, h))
           (λ (t, lt, r, most, e). let h = most.greatest (get_or x u (pos 0)) (met_now t lt) in omega (arith, ints, e, h))
           rest)
+          others)
           least.reached
 
       sum-raised : (s : List Bool) (a : ℤ) → length s ≡ k → Has s u → get_or s v false ≡ false → sum_over s (raised (get_or x u (pos 0) +ℤ a)) ≡ (sum_over s x +ℤ a)
@@ -231,9 +236,9 @@ module _ (k n : ℕ) (q w : ℤ) (low : pos 0 ≤ℤ (q *ℤ w)) (IsIndependent 
           let second = rw (hu, here) at (sum_over-set s (set x v (pos 0)) u (get_or x u (pos 0) +ℤ a) (ks ∙ sym (lv ∙ sized)) (omega (arith, lv, sized, ku))) in
           omega (arith, ints, first, second)
 
-      leaves : (a : ℤ) → IsLeastRoom a → (s : List Bool) → length s ≡ k → Has s u → get_or s v false ≡ false → (sum_over s x +ℤ a) ≤ℤ ((q *ℤ w) *ℤ pos (rank s))
-      leaves a least s ks hu ov =
-          let la = least-low a least in
+      leaves : (limit a : ℤ) → pos 0 ≤ℤ limit → IsLeastRoom limit a → (s : List Bool) → length s ≡ k → Has s u → get_or s v false ≡ false → (sum_over s x +ℤ a) ≤ℤ ((q *ℤ w) *ℤ pos (rank s))
+      leaves limit a some least s ks hu ov =
+          let la = least-low limit a some least in
           let cu = counts u (omega (arith, sized, ku)) in
           let r = get_or x u (pos 0) +ℤ a in
           let under = least.under_cap in
@@ -245,25 +250,44 @@ module _ (k n : ℕ) (q w : ℤ) (low : pos 0 ≤ℤ (q *ℤ w)) (IsIndependent 
           let e = sum-raised s a ks hu ov in
           omega (arith, ints, w', e)
 
-      -- the room of (u, v)
-      pub least_capacity : (a : ℤ) → IsLeastRoom a → IsCapacity (times q (rank_value w rank)) x u v a
-      least_capacity a least = record {
+      -- the room of (u, v), up to the limit
+      pub least_capacity : (limit a : ℤ) → pos 0 ≤ℤ limit → IsLeastRoom limit a → IsCapacityUpto (times q (rank_value w rank)) x u v limit a
+      least_capacity limit a some least = record {
+        low = least-low limit a some least;
+        high = least.under_limit;
         reached = base_from_leaves (times q (rank_value w rank)) k (λ s b. (length s ≡ k) × (times q (rank_value w rank) s ≡ Some b)) ((q *ℤ w) *ℤ pos (rank (whole_set k))) (own_listing (times q (rank_value w rank)) k ((q *ℤ w) *ℤ pos (rank (whole_set k))) (value-is (whole_set k)))
-            x sized base u v ku kv ne a (least-low a least) (λ s b h hu ov. let f : ((q *ℤ w) *ℤ pos (rank s)) ≡ b = some_same (sym (value-is s) ∙ h.1) in let l = leaves a least s h.0 hu ov in omega (arith, ints, l, f));
-        greatest = λ b moved.
+            x sized base u v ku kv ne a (least-low limit a some least) (λ s b h hu ov. let f : ((q *ℤ w) *ℤ pos (rank s)) ≡ b = some_same (sym (value-is s) ∙ h.1) in let l = leaves limit a some least s h.0 hu ov in omega (arith, ints, l, f));
+        greatest = λ b lb moved.
             let km = length-exchanged x u v b ∙ sized in
             let low' = base_counts (exchanged x u v b) km moved in
             let p = base_passes (exchanged x u v b) km moved in
             ⊎_elim
+            (λ e. omega (arith, ints, e, lb))
+            (λ others. ⊎_elim
             (λ e. let h = low' v (omega (arith, km, kv)) in let mv = moved-v b in omega (arith, ints, e, h, mv))
             (λ rest. ⊎_elim
             (λ e. let h = p.capped u ku in let mu = moved-u b in omega (arith, ints, e, h, mu))
             (λ (t, lt, r, most, e). let h = most.greatest (get_or x u (pos 0) +ℤ b) (met_raised t b lt moved) in omega (arith, ints, e, h))
             rest)
+            others)
             least.reached;
       } where
         some_same : {a b : ℤ} → Some a ≡ Some b → a ≡ b
         some_same h = cc
+
+      -- which is the room, up to what v has
+      pub whole_capacity : (a : ℤ) → IsCapacityUpto (times q (rank_value w rank)) x u v (get_or x v (pos 0)) a → IsCapacity (times q (rank_value w rank)) x u v a
+      whole_capacity a most = record {
+        reached = most.reached;
+        greatest = λ b moved.
+            let km = length-exchanged x u v b ∙ sized in
+            let h = base_counts (exchanged x u v b) km moved v (omega (arith, km, kv)) in
+            let mv = moved-v b in
+            most.greatest b (omega (arith, ints, h, mv)) moved;
+      }
+
+      pub own_capacity : (a : ℤ) → IsLeastRoom (get_or x v (pos 0)) a → IsCapacity (times q (rank_value w rank)) x u v a
+      own_capacity a least = whole_capacity a (least_capacity (get_or x v (pos 0)) a (counts v (omega (arith, sized, kv))) least)
 
       -- ---- what v can give to u
 

@@ -163,10 +163,9 @@ impl Term for Side {
         alloc: Global,
         at: &At<'_>,
         note: &mut SideNote,
-        u: usize,
-        v: usize,
-    ) -> Result<Room, Memory> {
-        by_note!(self, note, term => term.room_by(alloc, at, note, u, v))
+        swap: &Swap,
+    ) -> Result<i128, Memory> {
+        by_note!(self, note, term => term.room_by(alloc, at, note, swap))
     }
 
     fn moved(

@@ -192,6 +192,47 @@ struct Pair {
     v: usize,
 }
 
+/// Whether a note tells how much of an amount a room has.
+fn tells_upto<T: Term>(
+    alloc: Global,
+    term: &T,
+    at: &At<'_>,
+    note: &mut T::Note,
+    swap: &Swap,
+    room: Room,
+) -> bool
+    requires based { IsBased T.places T.value_of T.size_of term.now at.now.q at.now.x.now }
+    requires noted { T.fits term.now note.old at.now.q at.now.x.now }
+    requires pair { IsPair swap.now.u swap.now.v at.now.x.now }
+    requires wanted { pos 0 ≤ℤ swap.now.a }
+    ensures noted { IsTrue result → T.fits term.now note.new at.now.q at.now.x.now }
+{
+    match term.room_by(alloc, at, note, swap) {
+        Ok(most) => most == room.upto(swap.a),
+        Err(_) => false,
+    }
+}
+
+/// Whether a note tells the room of two places at a base, where a lot is wanted and where 1 is.
+fn tells_room<T: Term>(
+    alloc: Global,
+    term: &T,
+    at: &At<'_>,
+    note: &mut T::Note,
+    pair: Pair,
+    room: Room,
+) -> bool
+    requires based { IsBased T.places T.value_of T.size_of term.now at.now.q at.now.x.now }
+    requires noted { T.fits term.now note.old at.now.q at.now.x.now }
+    requires pair { IsPair pair.u pair.v at.now.x.now }
+    ensures noted { IsTrue result → T.fits term.now note.new at.now.q at.now.x.now }
+{
+    let Pair { u, v } = pair;
+    let a = MOST_ENTRY;
+    tells_upto(alloc, term, at, note, &Swap { u, v, a }, room)
+        && tells_upto(alloc, term, at, note, &Swap { u, v, a: 1 }, room)
+}
+
 /// Exchanges as much as can be between two places of a base, where there is a bound, and brings a note up to that, which is to tell
 /// that room.
 fn step<T: Term>(
@@ -210,23 +251,22 @@ fn step<T: Term>(
     ensures noted { IsTrue result → T.fits term.now note.new q x.new.items }
 {
     let at = At { q, x: x.as_slice() };
-    let Ok(told) = term.room_by(alloc, &at, note, pair.u, pair.v) else {
+    let Ok(room) = term.room(alloc, &at, pair.u, pair.v) else {
         return false;
     };
-    match term.room(alloc, &at, pair.u, pair.v) {
-        Ok(Room::Upto(a)) => {
+    if !tells_room(alloc, term, &at, note, pair, room) {
+        return false;
+    }
+    match room {
+        Room::Upto(a) => {
             let swap = Swap {
                 u: pair.u,
                 v: pair.v,
                 a,
             };
-            told == Room::Upto(a)
-                && 0 <= a
-                && a <= MOST_ENTRY
-                && exchange_by(alloc, term, q, x, note, &swap)
+            0 <= a && a <= MOST_ENTRY && exchange_by(alloc, term, q, x, note, &swap)
         }
-        Ok(Room::Unbounded) => told == Room::Unbounded,
-        Err(_) => false,
+        Room::Unbounded => true,
     }
 }
 

@@ -183,7 +183,28 @@ fn tells_reach<T: Term>(alloc: Global, term: &T, at: &At<'_>, note: &mut T::Note
     is_reach(alloc, term, at, u, &to)
 }
 
-/// Whether a note tells the room of (u, v) at a base.
+/// Whether a note tells how much of an amount a room has.
+fn tells_upto<T: Term>(
+    alloc: Global,
+    term: &T,
+    at: &At<'_>,
+    note: &mut T::Note,
+    swap: &Swap,
+    room: Room,
+) -> bool
+    requires based { IsBased T.places T.value_of T.size_of term.now at.now.q at.now.x.now }
+    requires noted { T.fits term.now note.old at.now.q at.now.x.now }
+    requires pair { IsPair swap.now.u swap.now.v at.now.x.now }
+    requires wanted { pos 0 ≤ℤ swap.now.a }
+    ensures noted { IsTrue result → T.fits term.now note.new at.now.q at.now.x.now }
+{
+    match term.room_by(alloc, at, note, swap) {
+        Ok(most) => most == room.upto(swap.a),
+        Err(_) => false,
+    }
+}
+
+/// Whether a note tells the room of (u, v) at a base, where 1 is wanted and where a lot is.
 fn tells_room<T: Term>(
     alloc: Global,
     term: &T,
@@ -196,8 +217,12 @@ fn tells_room<T: Term>(
     requires noted { T.fits term.now note.old at.now.q at.now.x.now }
     requires pair { IsPair u v at.now.x.now }
 {
-    let told = term.room_by(alloc, at, note, u, v);
-    told.is_ok() && told == term.room(alloc, at, u, v)
+    let Ok(room) = term.room(alloc, at, u, v) else {
+        return false;
+    };
+    let a = MOST_ENTRY;
+    tells_upto(alloc, term, at, note, &Swap { u, v, a: 1 }, room)
+        && tells_upto(alloc, term, at, note, &Swap { u, v, a }, room)
 }
 
 /// Whether a note tells the row of u and the room of (u, v) at a base.

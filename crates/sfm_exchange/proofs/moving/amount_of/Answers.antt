@@ -1,6 +1,6 @@
 use Rattle.std.proofs.Common.{◌≡◌, ◌<◌, ◌∙◌, [], List, length, length-set, ap, subst, sym, rules, arith, FitsSigned, ℤ, to_z}
 use Rattle.std.specs.List.{All}
-use Rattle.std.proofs.lemmas.Int.{to_z-of_z}
+use Rattle.std.proofs.lemmas.Int.{ints, to_z-of_z}
 use Rattle.std.proofs.lemmas.List.Elements.{All-get_or}
 use mir.Syntax.{w128}
 use Rattle.sfm_spec.specs.Bounds.{IsEntry}
@@ -8,7 +8,7 @@ use Rattle.sfm_spec.specs.Families.{meanings}
 use Rattle.sfm_spec.specs.Terms.{times}
 use Rattle.sfm_spec.specs.Walks.{base_at, term_at}
 use Rattle.sfm_law.specs.Based.{IsBased}
-use Rattle.sfm_law.specs.Room.{IsRoom}
+use Rattle.sfm_law.specs.Room.{IsCapacityUpto}
 use Rattle.sfm_reach.specs.Reach.{kept_fits}
 use Rattle.sfm_reach.proofs.Basing.{size_low}
 use Rattle.sfm_exchange.specs.Hops.{hop_at}
@@ -71,7 +71,9 @@ long g c =
     (here g c).entries ∙ sym (ap length (places_are still.claimed (hop_at c.args.hops.now c.loop-hop.hop-index).term (term_in g c) c.index-terms-i.result c.index-terms-i.is))
 
 pub room_kept-requires-clause-based : goal.room_kept-requires-clause-based
-room_kept-requires-clause-based g c = let fq : FitsSigned w128 c.args.q = c.ranges.q in simp to_z-of_z (here g c)
+room_kept-requires-clause-based g c =
+    let fq : FitsSigned w128 c.args.q = c.ranges.q in
+    simp to_z-of_z (here g (goal.at.room_kept-requires-clause-based g c).After-at-1)
 
 pub room_kept-requires-clause-noted : goal.room_kept-requires-clause-noted
 room_kept-requires-clause-noted g c =
@@ -79,20 +81,20 @@ room_kept-requires-clause-noted g c =
     let still = simp to_z-of_z at c.loop-hop.invariant.1 in
     let term = c.index-terms-i.result in
     let F : List ℤ → Type 0 = λ x. kept_fits g.T.Term.fits term c.index_mut-note.result.now c.args.q x in
-    let noted : F c.row-x.result.now = subst F (sym c.row-x.ensures) (still.claimed.noted (hop_at c.args.hops.now c.loop-hop.hop-index).term (term_in g c) term c.index-terms-i.is c.index_mut-note.result.now c.index_mut-note.ensures.value) in
+    let noted : F c.row-x.result.now = subst F (sym c.row-x.ensures) (still.claimed.noted (hop_at c.args.hops.now c.loop-hop.hop-index).term (term_in g (goal.at.room_kept-requires-clause-noted g c).After-at-1) term c.index-terms-i.is c.index_mut-note.result.now c.index_mut-note.ensures.value) in
     simp to_z-of_z noted
 
 pub room_kept-requires-clause-pair : goal.room_kept-requires-clause-pair
 room_kept-requires-clause-pair g c =
     let can = c.requires.movable c.loop-hop.hop-index c.loop-hop-test.true in
-    record { apart = can.apart; from = rw (long g c) can.u_in; onto = rw (long g c) can.v_in }
+    let places = long g (goal.at.room_kept-requires-clause-pair g c).After-at-1 in
+    record { apart = can.apart; from = rw places can.u_in; onto = rw places can.v_in }
 
 pub loop-hop-preserved : goal.loop-hop-preserved
 loop-hop-preserved g c =
     let t = g.T.Term in
     let fq : FitsSigned w128 c.args.q = c.ranges.q in
     let fm : FitsSigned w128 c.args.most = c.ranges.most in
-    let fw : FitsSigned w128 c.within-a.result = search rules in
     let ts = meanings t.places t.value_of c.args.terms.now in
     let k = c.loop-hop.hop-index in
     let inv = simp to_z-of_z at c.loop-hop.invariant in
@@ -105,14 +107,15 @@ loop-hop-preserved g c =
     let is = c.index-terms-i.is in
     let graph = c.loop-hop.graph in
     let note = c.room_kept.new.kept in
-    let o = c.in_ok-room.ensures in
-    let told = rw c.row-x.ensures at (simp to_z-of_z at o.room) in
-    let here : IsRoom (times c.args.q (term_at ts i).value) (base_at graph.bases i) hop.u hop.v c.in_ok-room.room = rw (means h i l term is) told in
-    let room = rw inv.1.bases at here in
-    let fit : kept_fits t.fits term note c.args.q (base_at graph.bases i) = rw c.row-x.ensures at (simp to_z-of_z at o.noted) in
+    let o = c.in_ok-a.ensures in
     let a : ℤ = to_z w128 c.loop-hop.a-bits in
-    let e = c.within-a.ensures in
-    let more = amount_more ts c.args.q c.args.graph.now.bases c.requires.graph.are_bases c.args.hops.now k c.args.most a c.within-a.result c.in_ok-room.room can inv.0 room (λ j lj. c.requires.movable j (omega (arith, lj, c.loop-hop-test.true))) e.low e.room e.greatest in
+    let b : ℤ = c.in_ok-a.a in
+    let fb : FitsSigned w128 b = search rules in
+    let told = rw c.row-x.ensures at (simp to_z-of_z at o.room) in
+    let here : IsCapacityUpto (times c.args.q (term_at ts i).value) (base_at graph.bases i) hop.u hop.v a b = rw (means h i l term is) told in
+    let upto = rw inv.1.bases at here in
+    let fit : kept_fits t.fits term note c.args.q (base_at graph.bases i) = rw c.row-x.ensures at (simp to_z-of_z at o.noted) in
+    let more = amount_more ts c.args.q c.args.graph.now.bases c.requires.graph.are_bases c.args.hops.now k c.args.most a b can inv.0 upto (λ j lj. c.requires.movable j (omega (arith, lj, c.loop-hop-test.true))) in
     simp to_z-of_z (
       more,
       record {
@@ -162,3 +165,6 @@ returns-clause-moves g c =
     let inv = simp to_z-of_z at c.loop-hop.invariant in
     let done : c.loop-hop.hop-index ≡ length c.args.hops.now = omega (arith, c.loop-hop.auto.hop-index-end, c.loop-hop-test.false) in
     λ k l. inv.0.moves k (omega (arith, l, done))
+
+pub room_kept-requires-clause-wanted : goal.room_kept-requires-clause-wanted
+room_kept-requires-clause-wanted g c = let some = c.loop-hop.invariant.0.some in omega (arith, ints, some)

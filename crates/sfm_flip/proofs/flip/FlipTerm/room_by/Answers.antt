@@ -1,8 +1,10 @@
 -- The room of (u, v) is that of (v, u) at the negated base, by what the term keeps beside that.
-use Rattle.std.proofs.Common.{◌≡◌, ◌∙◌}
+use Rattle.std.proofs.Common.{◌≡◌, ◌∙◌, rules, FitsSigned}
+use Rattle.std.proofs.lemmas.Int.{to_z-of_z}
 use Rattle.std.proofs.lemmas.Result.{IfOk-weaker}
+use mir.Syntax.{w128}
 use Rattle.sfm_kind.proofs.Passed.{factor_kept}
-use Rattle.sfm_flip.proofs.Bases.{based_from, pair_from, room_to}
+use Rattle.sfm_flip.proofs.Bases.{based_from, capacity_to, pair_from}
 use Rattle.sfm_flip.proofs.flip.FlipTerm.room_by.Goals as goal
 
 pub room_by-requires-clause-based : goal.room_by-requires-clause-based
@@ -15,14 +17,17 @@ room_by-requires-clause-based c =
 pub room_by-requires-clause-pair : goal.room_by-requires-clause-pair
 room_by-requires-clause-pair c =
     let at = c.args.at.now in
+    let swap = c.args.swap.now in
     let r = c.requires in
-    rw (c.as_slice-x.ensures ∙ r.noted.0) (pair_from c.args.self.now at.q at.x.now r.based c.args.u c.args.v r.pair)
+    rw (c.as_slice-x.ensures ∙ r.noted.0) (pair_from c.args.self.now at.q at.x.now r.based swap.u swap.v r.pair)
 
 pub returns-clause-room : goal.returns-clause-room
 returns-clause-room c =
     let s = c.args.self.now in
     let at = c.args.at.now in
+    let swap = c.args.swap.now in
     let r = c.requires in
+    let fa : FitsSigned w128 swap.a = search rules in
     let v : c.self.inside.term ≡ s = c.self.view_is in
-    let is = rw (factor_kept _ r.based.factor, c.as_slice-x.ensures ∙ r.noted.0, v) at c.room_by.ensures.room in
-    IfOk-weaker c.room_by.result _ _ (room_to s at.q at.x.now r.based c.args.u c.args.v r.pair) is
+    let is = rw (factor_kept _ r.based.factor, c.as_slice-x.ensures ∙ r.noted.0, v) at (simp to_z-of_z at c.room_by.ensures.room) in
+    IfOk-weaker c.room_by.result _ _ (capacity_to s at.q at.x.now r.based swap.u swap.v r.pair swap.a) is

@@ -25,8 +25,8 @@ raise_spare-requires-clause-held c =
     let b = r.based in
     let s = c.args.self.now in
     let at = c.args.at.now in
-    let root = end_vertex s c.args.u c.end_near-root.result (omega (arith, r.pair.from, b.entries)) c.end_near-root.ensures in
-    rw (r.noted.split, held (goal.at.raise_spare-requires-clause-held c).After-deref, c.pull_of-pull.ensures.v) (ends_hold s at.q b.factor at.x.now b.entries b.base c.args.v c.end_near-root.result c.args.note.now.root r.pair.onto root)
+    let root = end_vertex s c.args.swap.now.u c.end_near-root.result (omega (arith, r.pair.from, b.entries)) c.end_near-root.ensures in
+    rw (r.noted.split, held (goal.at.raise_spare-requires-clause-held c).After-deref, c.pull_of-pull.ensures.v) (ends_hold s at.q b.factor at.x.now b.entries b.base c.args.swap.now.v c.end_near-root.result c.args.note.now.root r.pair.onto root)
 
 pub returns-clause-room : goal.returns-clause-room
 returns-clause-room c =
@@ -38,5 +38,5 @@ returns-clause-room c =
     let p = c.pull_of-pull.ensures in
     let limit = rw (cap_is (goal.at.returns-clause-room c).After-cap_of-cap) at p.limit in
     let fm : FitsSigned w128 c.in_ok-most.most = search rules in
-    let most = rw (r.noted.split, held (goal.at.returns-clause-room c).After-deref, p.u, p.v, limit) at c.in_ok-most.ensures.most in
-    simp to_z-of_z (grown_capacity (length s.places) at.q s.w s.ends s.same_count (product_low at.q s.w b.factor s.low) at.x.now b.entries b.base c.args.u c.args.v pair.from pair.onto pair.apart c.end_near-root.result c.end_near-root.ensures _ most)
+    let most = rw (r.noted.split, held (goal.at.returns-clause-room c).After-deref, p.u, p.v) at c.in_ok-most.ensures.most in
+    simp to_z-of_z (grown_capacity (length s.places) at.q s.w s.ends s.same_count (product_low at.q s.w b.factor s.low) at.x.now b.entries b.base c.args.swap.now.u c.args.swap.now.v pair.from pair.onto pair.apart c.end_near-root.result c.end_near-root.ensures c.args.swap.now.a _ _ limit most)

@@ -1,0 +1,13 @@
+use Rattle.std.proofs.Common.{rules, FitsSigned}
+use Rattle.std.proofs.lemmas.Int.{to_z-of_z}
+use mir.Syntax.{w128}
+use Rattle.sfm_law.proofs.Rooms.{room_upto}
+use Rattle.sfm_law.proofs.plain.AnyTerm.room_by.Goals as goal
+
+pub returns-clause-room : goal.returns-clause-room
+returns-clause-room g c =
+    let fa : FitsSigned w128 c.args.swap.now.a = search rules in
+    let fr : FitsSigned w128 c.upto.result = search rules in
+    let e = simp to_z-of_z at c.upto.ensures in
+    let r = c.requires in
+    simp to_z-of_z (room_upto c.room_of-room.result c.args.swap.now.a c.upto.result r.based.base r.pair c.room_of-room.ensures r.wanted e.high e.within e.greatest)
