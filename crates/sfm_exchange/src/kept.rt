@@ -9,7 +9,7 @@ use crate::path::Hop;
 use crate::renewing::{Changes, renew_rows};
 use sfm_base::Memory;
 use sfm_law::{Swap, Term};
-use sfm_reach::{Based, BitRows, Bits, note_at};
+use sfm_reach::{Based, BitRows, Bits, keep_note};
 use std::alloc::Global;
 
 /// How much of an amount can be exchanged at a base. After want of memory nothing is said of what is kept.
@@ -29,10 +29,11 @@ pub(crate) fn room_kept<T: Term>(
     ensures noted { OnOk result (kept_fits T.fits at.now.term.now kept.new at.now.base.q
         at.now.base.x.now) }
 {
-    let mut note = note_at(alloc, at, kept.take())?;
-    let most = at.term.room_by(alloc, &at.base, &mut note, swap)?;
-    *kept = Some(note);
-    Ok(most)
+    keep_note(alloc, at, kept)?;
+    match kept {
+        Some(note) => at.term.room_by(alloc, &at.base, note, swap),
+        None => unreachable!(),
+    }
 }
 
 /// What is kept beside the base to which an exchange leads. After want of memory nothing is said of it.
@@ -50,10 +51,11 @@ pub(crate) fn move_kept<T: Term>(
     ensures { OnOk result (kept_fits T.fits at.now.term.now kept.new at.now.base.q
         (exchanged at.now.base.x.now swap.now.u swap.now.v swap.now.a)) }
 {
-    let mut note = note_at(alloc, at, kept.take())?;
-    at.term.moved(alloc, &at.base, &mut note, swap)?;
-    *kept = Some(note);
-    Ok(())
+    keep_note(alloc, at, kept)?;
+    match kept {
+        Some(note) => at.term.moved(alloc, &at.base, note, swap),
+        None => unreachable!(),
+    }
 }
 
 /// What is kept beside m times a base, made of what is kept beside the base; nothing where the term makes nothing of it.
@@ -101,8 +103,9 @@ pub(crate) fn renew_kept<T: Term>(
         (times at.now.base.q (T.value_of at.now.term.now)) at.now.base.x.now claimed.new r rows.old
         rows.new) }
 {
-    let mut note = note_at(alloc, at, kept.take())?;
-    let changes = renew_rows(alloc, at, &mut note, hop, rows, claimed)?;
-    *kept = Some(note);
-    Ok(changes)
+    keep_note(alloc, at, kept)?;
+    match kept {
+        Some(note) => renew_rows(alloc, at, note, hop, rows, claimed),
+        None => unreachable!(),
+    }
 }

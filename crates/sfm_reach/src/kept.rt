@@ -1,6 +1,6 @@
 // The note of a term beside its base, made once it is wanted first. A graph at bases that were not asked, as one whose rows are those of
 // another graph, makes none for the terms that no walk goes by.
-ghost use Rattle.std.specs.Prelude.{◌≡◌, ◌<◌, ℤ, List, length, IfOk, IfSome, OnOk};
+ghost use Rattle.std.specs.Prelude.{◌≡◌, ◌≢◌, ◌<◌, ℤ, List, length, IfOk, None, OnOk};
 ghost use Rattle.sfm_spec.specs.Terms.{times};
 ghost use Rattle.sfm_law.specs.Based.{IsBased};
 ghost use Rattle.sfm_reach.specs.{Based.{IsPlacedBase}, Reach.{AreNotes, IsReachTable, IsRow, kept_fits}};
@@ -11,26 +11,29 @@ use sfm_base::Memory;
 use sfm_law::Term;
 use std::alloc::Global;
 
-/// The note of a term at its base: the one that is kept, or else one that is made now.
+/// Sees to it that a note of a term at its base is kept: one is made now where there is none.
 ///
 /// # Errors
 ///
 /// `Memory` where there is none.
-pub fn note_at<T: Term>(
+pub fn keep_note<T: Term>(
     alloc: Global,
     at: &Based<'_, '_, T>,
-    kept: Option<T::Note>,
-) -> Result<T::Note, Memory>
+    kept: &mut Option<T::Note>,
+) -> Result<(), Memory>
     requires based { IsBased T.places T.value_of T.size_of at.now.term.now at.now.base.q
         at.now.base.x.now }
-    requires kept { IfSome kept (λ note. T.fits at.now.term.now note at.now.base.q
+    requires noted { kept_fits T.fits at.now.term.now kept.old at.now.base.q at.now.base.x.now }
+    ensures some { OnOk result (kept.new ≢ None) }
+    ensures noted { OnOk result (kept_fits T.fits at.now.term.now kept.new at.now.base.q
         at.now.base.x.now) }
-    ensures { IfOk result (λ note. T.fits at.now.term.now note at.now.base.q at.now.base.x.now) }
 {
-    match kept {
-        Some(note) => Ok(note),
-        None => at.term.note(alloc, &at.base),
+    if kept.is_some() {
+        return Ok(());
     }
+    let note = at.term.note(alloc, &at.base)?;
+    *kept = Some(note);
+    Ok(())
 }
 
 /// The row of the place u, as `row_by` tells it, by the note that is kept or made now, which is kept then. After want of memory
@@ -57,10 +60,11 @@ pub fn row_kept<T: Term>(
     ensures noted { OnOk result (kept_fits T.fits at.now.term.now kept.new at.now.base.q
         at.now.base.x.now) }
 {
-    let mut note = note_at(alloc, at, kept.take())?;
-    let row = row_by(alloc, at, &mut note, u, rows)?;
-    *kept = Some(note);
-    Ok(row)
+    keep_note(alloc, at, kept)?;
+    match kept {
+        Some(note) => row_by(alloc, at, note, u, rows),
+        None => unreachable!(),
+    }
 }
 
 /// Asks for each row of a term at its base, as `ask` does, by the note that is kept or made now, which is kept then. After want
@@ -86,10 +90,11 @@ pub fn ask_kept<T: Term>(
     ensures noted { OnOk result (kept_fits T.fits at.now.term.now kept.new at.now.base.q
         at.now.base.x.now) }
 {
-    let mut note = note_at(alloc, at, kept.take())?;
-    ask(alloc, at, &mut note, rows)?;
-    *kept = Some(note);
-    Ok(())
+    keep_note(alloc, at, kept)?;
+    match kept {
+        Some(note) => ask(alloc, at, note, rows),
+        None => unreachable!(),
+    }
 }
 
 /// For each term no note, which is right beside all bases.

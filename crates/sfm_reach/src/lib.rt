@@ -18,7 +18,7 @@ pub use ahead::Ahead;
 pub use asking::ask_all;
 pub use bits::{Bits, no_bits, only};
 pub use image::Image;
-pub use kept::{ask_kept, no_notes, note_at, row_kept};
+pub use kept::{ask_kept, keep_note, no_notes, row_kept};
 pub use reach::{Based, BitRows, ask, blank_rows, row_beside, row_by};
 pub use reached::{reached_from, set_of, take_in};
 pub use spots::{Spot, Spots, spots_of};
