@@ -4,7 +4,7 @@ use Rattle.sfm_spec.specs.Terms.{times}
 use Rattle.sfm_spec.proofs.Scaled.{family-times, submodular-times}
 use Rattle.sfm_reach.specs.Bits.{bit_in}
 use Rattle.sfm_exchange.proofs.AtOnce.{exchange_asked, lead_to_s, of_others}
-use Rattle.sfm_exchange.proofs.Changes.{changes_anew, changes_grown}
+use Rattle.sfm_exchange.proofs.Changes.{changes_all, changes_anew, changes_grown}
 use Rattle.sfm_exchange.proofs.Claiming.{IsRenewing, exchange_more, exchange_still, neither}
 use Rattle.sfm_exchange.proofs.Sharing.{changes_shared, claims_shared, shared_inside, shared_lead}
 use Rattle.sfm_exchange.proofs.renewing.renew_rows.Given as given
@@ -41,10 +41,24 @@ returns-then-contains-clause-raised g c =
     let shown = c.elements-places.ensures in
     let hs = c.in_ok-of_s.ensures in
     let taken = rw (shown, hs.same) at c.take_in_raised.ensures.taken in
-    let made = rw shown at c.settle_raised.ensures in
+    let made = rw shown at c.settle_raised-changes.ensures in
     rw taken.put (record {
       claims = exchange_still r _ hs.row _ taken.joined (rw shown at (c.if-contains.ensures.0 refl)) _ made.claimed;
-      changes = changes_grown r _ hs.row c.settle_raised.result _ _ taken.joined made.anew made.grown;
+      changes = changes_grown r _ hs.row c.settle_raised-changes.result _ _ taken.joined made.anew made.grown;
+    })
+
+pub returns-then-has_all-clause-raised : goal.returns-then-has_all-clause-raised
+returns-then-has_all-clause-raised g c =
+    let r = renewing g (goal.at.returns-then-has_all-clause-raised g c).After-depending-changed in
+    let shown = c.elements-places.ensures in
+    let hs = c.in_ok-of_s.ensures in
+    let taken = rw (shown, hs.same) at c.take_in_raised.ensures.taken in
+    let made = rw shown at c.settle_raised-changes.ensures in
+    let grown = changes_grown r _ hs.row c.settle_raised-changes.result _ _ taken.joined made.anew made.grown in
+    let had = rw c.row-before.ensures at (c.has_all.ensures c.if-has_all.true) in
+    rw taken.put (record {
+      claims = exchange_still r _ hs.row _ taken.joined (rw shown at (c.if-contains.ensures.0 refl)) _ made.claimed;
+      changes = changes_all r _ hs.row c.settle_raised-changes.result _ _ taken.joined made.anew c.all_grown.result c.all_grown.ensures.grown c.all_grown.ensures.anew had grown;
     })
 
 pub ask_rows-requires-clause-leads : goal.ask_rows-requires-clause-leads
@@ -72,9 +86,9 @@ returns-clause-raised g c =
     let shown = c.elements-places.ensures in
     let hs = c.in_ok-of_s.ensures in
     let taken = rw (shown, hs.same, c.row-before.ensures) at c.take_in_raised-2.ensures.taken in
-    let made = rw shown at c.settle_raised-changes.ensures in
-    let still = exchange_more r _ hs.row _ taken.joined _ (λ e ne none. neither c.args.claimed.now c.depending-changed.result e (bit_in c.settle_raised-changes.new.claimed e) (made.claimed e ne ∙ c.union_with.ensures e) none) in
-    let grown = changes_grown r _ hs.row c.settle_raised-changes.result _ _ taken.joined made.anew made.grown in
+    let made = rw shown at c.settle_raised-changes-2.ensures in
+    let still = exchange_more r _ hs.row _ taken.joined _ (λ e ne none. neither c.args.claimed.now c.depending-changed.result e (bit_in c.settle_raised-changes-2.new.claimed e) (made.claimed e ne ∙ c.union_with.ensures e) none) in
+    let grown = changes_grown r _ hs.row c.settle_raised-changes-2.result _ _ taken.joined made.anew made.grown in
     let told = c.shared_places-shared.ensures in
     let after = rw (shown, taken.put) at c.settle_shared.ensures in
     record {
@@ -106,8 +120,8 @@ take_in_raised-requires-clause-local g c = rw (c.elements-places.ensures, ← c.
 pub take_in_raised-requires-clause-place : goal.take_in_raised-requires-clause-place
 take_in_raised-requires-clause-place g c = let b = c.requires.based in rw c.elements-places.ensures (b.placed.below c.args.hop.u (rw (← b.based.entries) c.requires.before.pair.from))
 
-pub settle_raised-requires : goal.settle_raised-requires
-settle_raised-requires g c = let b = c.requires.based in rw c.elements-places.ensures (b.placed.below c.args.hop.u (rw (← b.based.entries) c.requires.before.pair.from))
+pub settle_raised-changes-requires : goal.settle_raised-changes-requires
+settle_raised-changes-requires g c = let b = c.requires.based in rw c.elements-places.ensures (b.placed.below c.args.hop.u (rw (← b.based.entries) c.requires.before.pair.from))
 
 pub ask_rows-requires-clause-raised : goal.ask_rows-requires-clause-raised
 ask_rows-requires-clause-raised g c =
@@ -129,8 +143,8 @@ take_in_raised-requires-2-clause-local g c = rw (c.elements-places.ensures, ← 
 pub take_in_raised-requires-2-clause-place : goal.take_in_raised-requires-2-clause-place
 take_in_raised-requires-2-clause-place g c = let b = c.requires.based in rw c.elements-places.ensures (b.placed.below c.args.hop.u (rw (← b.based.entries) c.requires.before.pair.from))
 
-pub settle_raised-changes-requires : goal.settle_raised-changes-requires
-settle_raised-changes-requires g c = let b = c.requires.based in rw c.elements-places.ensures (b.placed.below c.args.hop.u (rw (← b.based.entries) c.requires.before.pair.from))
+pub settle_raised-changes-requires-2 : goal.settle_raised-changes-requires-2
+settle_raised-changes-requires-2 g c = let b = c.requires.based in rw c.elements-places.ensures (b.placed.below c.args.hop.u (rw (← b.based.entries) c.requires.before.pair.from))
 
 pub settle_shared-requires-clause-placed : goal.settle_shared-requires-clause-placed
 settle_shared-requires-clause-placed g c = rw c.elements-places.ensures c.requires.based.placed
