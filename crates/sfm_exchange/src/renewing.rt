@@ -123,25 +123,13 @@ fn settle_raised(changed: &Bits, place: usize, claimed: &mut Bits) -> Changes
     }
 }
 
-// Whether a row has all that another one has.
-fn has_all(row: &Bits, before: &Bits) -> bool
-    ensures { result ≡ true → (e : ℕ) → bit_in before.now e ≡ 1 → bit_in row.now e ≡ 1 }
-{
-    let mut lost = *before;
-    lost.remove_all(row);
-    lost.is_empty()
-}
-
 // Rows that have changed, where those that may be any have what they had.
 fn all_grown(changes: Changes) -> Changes
     ensures grown { (e : ℕ) → bit_in result.grown e ≡ max (bit_in changes.grown e)
         (bit_in changes.anew e) }
     ensures anew { (e : ℕ) → bit_in result.anew e ≡ 0 }
 {
-    let Changes {
-        mut grown,
-        anew,
-    } = changes;
+    let Changes { mut grown, anew } = changes;
     grown.union_with(&anew);
     Changes {
         grown,
@@ -339,7 +327,7 @@ pub fn renew_rows<T: Term>(
     if of_s.contains(places[hop.v]) {
         take_in_raised(places, &changed, &of_s, &raised, rows);
         let changes = settle_raised(&changed, to, claimed);
-        if has_all(&of_s, &before) {
+        if before.is_within(&of_s) {
             return Ok(all_grown(changes));
         }
         return Ok(changes);

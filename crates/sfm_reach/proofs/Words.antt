@@ -58,6 +58,17 @@ apart_by_words s o e z hs ho =
     let b : bit_at v (e % 64) ≡ 1 = sym (bit_in-words o e) ∙ ho in
     omega (arith, both, none, a, b)
 
+-- where the words have nothing that the others have not, the other set has each place
+pub inside_by_words : (s o : Bits) (e : ℕ) → bit_and (get_or s.words (e / 64) 0) (get_or o.words (e / 64) 0) ≡ get_or s.words (e / 64) 0 → bit_in s e ≡ 1 → bit_in o e ≡ 1
+inside_by_words s o e same hs =
+    let w = get_or s.words (e / 64) 0 in
+    let v = get_or o.words (e / 64) 0 in
+    let both = bit_at_and w v (e % 64) in
+    let all : bit_at (bit_and w v) (e % 64) ≡ bit_at w (e % 64) = ap (λ x. bit_at x (e % 64)) same in
+    let a : bit_at w (e % 64) ≡ 1 = sym (bit_in-words s e) ∙ hs in
+    let below = bit_at-lt v (e % 64) in
+    bit_in-words o e ∙ omega (arith, both, all, a, below)
+
 -- past the words there is no place
 pub within_words : (s : Bits) (e : ℕ) → length s.words ≤ e / 64 → bit_in s e ≡ 0
 within_words s e past = bit_in-words s e ∙ (ap (λ w. bit_at w (e % 64)) (get_or_past s.words (e / 64) 0 past) ∙ bit_at-zero (e % 64))

@@ -1,7 +1,6 @@
 -- What all terms tell at bases of theirs.
 use Rattle.std.specs.Prelude.{◌≡◌, ℕ, ◌<◌, List, length, map, ℤ, Option}
 use Rattle.sfm_law.specs.declared.term.Term.{Ghosts}
-use Rattle.sfm_spec.specs.Terms.{SetFunction}
 use Rattle.sfm_spec.specs.Families.{meanings}
 use Rattle.sfm_reach.specs.declared.bits.Bits.{Bits}
 use Rattle.sfm_reach.specs.Reach.{AreNotes, AreSized, IsTable, kept_fits, table_at}

@@ -161,6 +161,20 @@ impl Bits {
         self.first_common(self).is_none()
     }
 
+    /// Whether another set has each place of this one.
+    pub fn is_within(&self, other: &Bits) -> bool
+        ensures { result ≡ true → (e : ℕ) → bit_in self.now e ≡ 1 → bit_in other.now e ≡ 1 }
+    {
+        let words = self.words;
+        let others = other.words;
+        for k in 0..4 {
+            if words[k] & others[k] != words[k] {
+                return false;
+            }
+        }
+        true
+    }
+
     /// Whether the sets have a place in common.
     pub fn meets(&self, other: &Bits) -> bool
         ensures { IsTrue result ↔ ((e : ℕ) × (bit_in self.now e ≡ 1) × (bit_in other.now e ≡ 1)) }

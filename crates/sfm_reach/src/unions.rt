@@ -1,7 +1,7 @@
 // One row for each place of the ground: all places that a step by any term leads to from there.
-ghost use Rattle.std.specs.Prelude.{◌≡◌, ◌<◌, ◌≤◌, ℕ, length, IfOk, slice_index_or};
+ghost use Rattle.std.specs.Prelude.{◌≡◌, ◌<◌, ◌≤◌, ℕ, max, length, IfOk, slice_index_or, slice_set};
 ghost use Rattle.sfm_spec.specs.Sets.{IsPlaced};
-ghost use Rattle.sfm_reach.specs.{Bits.{bit_in}, Turned.{AreTurned}, Unions.{IsUnion, AreRenewed, AreUnions, AreWidened, HasRows, HaveRows}};
+ghost use Rattle.sfm_reach.specs.{Bits.{bit_in, set_at}, Turned.{AreTurned}, Unions.{IsUnion, AreRenewed, AreUnions, AreWidened, HasRows, HaveRows}};
 
 use crate::ahead::Ahead;
 use crate::bits::{Bits, no_bits};
@@ -62,6 +62,25 @@ pub fn renew(
     }
 }
 
+// Puts a row into the union row of a place, and the same into the rows turned round, unless it is there.
+fn put_in(row: &Bits, place: usize, unions: &mut Vec<Bits>, back: &mut Vec<Bits>)
+    requires place { place < 256 }
+    requires inside { place < length unions.old.items }
+    requires turned { AreTurned unions.old.items back.old.items }
+    ensures put { (wide : Bits) × (unions.new.items ≡ slice_set unions.old.items place wide)
+        × ((t : ℕ) → bit_in wide t ≡ max (bit_in (set_at unions.old.items place) t)
+        (bit_in row.now t)) }
+    ensures turned { AreTurned unions.new.items back.new.items }
+{
+    if row.is_within(&unions[place]) {
+        return;
+    }
+    let mut wide = unions[place];
+    wide.union_with(row);
+    turn(back, place, &unions[place], &wide);
+    unions[place] = wide;
+}
+
 /// Puts the rows of some places of a term into the union rows, and the same into the rows turned round.
 pub fn widen(
     places: &[usize],
@@ -81,10 +100,7 @@ pub fn widen(
 {
     for (u, place) in places.iter().enumerate() {
         if grown.contains(*place) {
-            let mut row = unions[*place];
-            row.union_with(&rows.as_slice()[u]);
-            turn(back, *place, &unions[*place], &row);
-            unions[*place] = row;
+            put_in(&rows.as_slice()[u], *place, unions, back);
         }
     }
 }

@@ -47,15 +47,15 @@ returns-then-contains-clause-raised g c =
       changes = changes_grown r _ hs.row c.settle_raised-changes.result _ _ taken.joined made.anew made.grown;
     })
 
-pub returns-then-has_all-clause-raised : goal.returns-then-has_all-clause-raised
-returns-then-has_all-clause-raised g c =
-    let r = renewing g (goal.at.returns-then-has_all-clause-raised g c).After-depending-changed in
+pub returns-then-is_within-clause-raised : goal.returns-then-is_within-clause-raised
+returns-then-is_within-clause-raised g c =
+    let r = renewing g (goal.at.returns-then-is_within-clause-raised g c).After-depending-changed in
     let shown = c.elements-places.ensures in
     let hs = c.in_ok-of_s.ensures in
     let taken = rw (shown, hs.same) at c.take_in_raised.ensures.taken in
     let made = rw shown at c.settle_raised-changes.ensures in
     let grown = changes_grown r _ hs.row c.settle_raised-changes.result _ _ taken.joined made.anew made.grown in
-    let had = rw c.row-before.ensures at (c.has_all.ensures c.if-has_all.true) in
+    let had = rw c.row-before.ensures at (c.is_within.ensures c.if-is_within.true) in
     rw taken.put (record {
       claims = exchange_still r _ hs.row _ taken.joined (rw shown at (c.if-contains.ensures.0 refl)) _ made.claimed;
       changes = changes_all r _ hs.row c.settle_raised-changes.result _ _ taken.joined made.anew c.all_grown.result c.all_grown.ensures.grown c.all_grown.ensures.anew had grown;
