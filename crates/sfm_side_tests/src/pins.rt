@@ -1,8 +1,9 @@
 // Texts of pins.
-use crate::rows::{instance_of, is_fault, text_of};
+use crate::rows::{Read, are_rows};
 use sfm_base::Set;
 use sfm_kind::Instance;
 use sfm_side::{Pins, read_pins};
+use sfm_text::TextEnd;
 use std::alloc::Global;
 use std::process::Abort;
 
@@ -14,43 +15,22 @@ fn has_listed(set: &Set, list: &str) -> bool {
         && set.contains(2) == list.contains('c')
 }
 
-/// Whether the pins are those that are listed, with a `/` between the members and the others.
-fn are_listed(pins: &Pins, list: &str) -> bool {
-    let (inside, outside) = list.split_once('/').unwrap_or((list, ""));
-    has_listed(&pins.inside, inside) && has_listed(&pins.outside, outside)
-}
+const GROUND: &str = "ground a b c";
 
-/// Whether a text gives what is told: pins behind `=`, or else its first fault.
-fn is_told(alloc: Global, instance: &Instance, text: &[u8], told: &str) -> bool {
-    match read_pins(alloc, instance, text) {
-        Ok(pins) => match told.strip_prefix("=") {
-            Some(list) => are_listed(&pins, list),
-            None => false,
-        },
-        Err(end) => is_fault(end, told),
-    }
-}
+/// Pins, listed with a `/` between the members and the others.
+struct OfPins;
 
-/// Whether a row holds: what is told of a text, and behind an arrow that text.
-fn is_row(alloc: Global, instance: &Instance, row: &str) -> bool {
-    let (told, text) = row.split_once('>').unwrap_or((row, ""));
-    match text_of(alloc, text) {
-        Some(text) => is_told(alloc, instance, text.as_bytes(), told),
-        None => false,
-    }
-}
+impl Read for OfPins {
+    type Found = Pins;
 
-/// Whether all rows hold, over a ground of a, b and c.
-fn are_rows(alloc: Global, rows: &[&str]) -> bool {
-    let Some(instance) = instance_of(alloc, "ground a b c") else {
-        return false;
-    };
-    for row in rows {
-        if !is_row(alloc, &instance, row) {
-            return false;
-        }
+    fn read(alloc: Global, instance: &Instance, text: &[u8]) -> Result<Pins, TextEnd> {
+        read_pins(alloc, instance, text)
     }
-    true
+
+    fn is_listed(pins: &Pins, list: &str) -> bool {
+        let (inside, outside) = list.split_once('/').unwrap_or((list, ""));
+        has_listed(&pins.inside, inside) && has_listed(&pins.outside, outside)
+    }
 }
 
 /// The frame of the text.
@@ -70,7 +50,7 @@ const FRAMES: [&str; 11] = [
 
 #[test]
 fn a_text_of_pins_has_its_frame(rt: HostRuntime) {
-    assert!(rt; are_rows(rt.alloc(), &FRAMES));
+    assert!(rt; are_rows::<OfPins>(rt.alloc(), GROUND, &FRAMES));
 }
 
 /// The lines of the text.
@@ -96,5 +76,5 @@ const LINES: [&str; 17] = [
 
 #[test]
 fn lines_of_pins_have_their_reasons(rt: HostRuntime) {
-    assert!(rt; are_rows(rt.alloc(), &LINES));
+    assert!(rt; are_rows::<OfPins>(rt.alloc(), GROUND, &LINES));
 }

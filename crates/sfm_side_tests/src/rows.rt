@@ -31,3 +31,48 @@ pub fn is_fault(end: TextEnd, fault: &str) -> bool {
         TextEnd::Memory => false,
     }
 }
+
+/// What is read of a text over an instance.
+pub trait Read {
+    /// What a good text gives.
+    type Found: Drop;
+
+    /// Reads a text.
+    fn read(alloc: Global, instance: &Instance, text: &[u8]) -> Result<Self::Found, TextEnd>;
+
+    /// Whether what was read is what a row lists.
+    fn is_listed(found: &Self::Found, list: &str) -> bool;
+}
+
+/// Whether a text gives what is told: what is listed behind `=`, or else its first fault.
+pub fn is_told<R: Read>(alloc: Global, instance: &Instance, text: &[u8], told: &str) -> bool {
+    match R::read(alloc, instance, text) {
+        Ok(found) => match told.strip_prefix("=") {
+            Some(list) => R::is_listed(&found, list),
+            None => false,
+        },
+        Err(end) => is_fault(end, told),
+    }
+}
+
+/// Whether a row holds: what is told of a text, and behind an arrow that text.
+fn is_row<R: Read>(alloc: Global, instance: &Instance, row: &str) -> bool {
+    let (told, text) = row.split_once('>').unwrap_or((row, ""));
+    match text_of(alloc, text) {
+        Some(text) => is_told::<R>(alloc, instance, text.as_bytes(), told),
+        None => false,
+    }
+}
+
+/// Whether all rows hold over an instance with this ground line.
+pub fn are_rows<R: Read>(alloc: Global, ground: &str, rows: &[&str]) -> bool {
+    let Some(instance) = instance_of(alloc, ground) else {
+        return false;
+    };
+    for row in rows {
+        if !is_row::<R>(alloc, &instance, row) {
+            return false;
+        }
+    }
+    true
+}

@@ -1,9 +1,9 @@
 // Texts of sizes.
-use crate::rows::{instance_of, is_fault, text_of};
+use crate::rows::{Read, are_rows, instance_of, is_told};
 use sfm_base::read_number;
 use sfm_kind::Instance;
 use sfm_side::read_sizes;
-use sfm_text::TEXT_LIMIT;
+use sfm_text::{TEXT_LIMIT, TextEnd};
 use std::alloc::Global;
 use std::process::Abort;
 
@@ -19,37 +19,21 @@ fn are_listed(sizes: &[i128], list: &str) -> bool {
     at == sizes.len()
 }
 
-/// Whether a text gives what is told: sizes behind `=`, or else its first fault.
-fn is_told(alloc: Global, instance: &Instance, text: &[u8], told: &str) -> bool {
-    match read_sizes(alloc, instance, text) {
-        Ok(sizes) => match told.strip_prefix("=") {
-            Some(list) => are_listed(&sizes, list),
-            None => false,
-        },
-        Err(end) => is_fault(end, told),
-    }
-}
+const GROUND: &str = "ground a b";
 
-/// Whether a row holds: what is told of a text, and behind an arrow that text.
-fn is_row(alloc: Global, instance: &Instance, row: &str) -> bool {
-    let (told, text) = row.split_once('>').unwrap_or((row, ""));
-    match text_of(alloc, text) {
-        Some(text) => is_told(alloc, instance, text.as_bytes(), told),
-        None => false,
-    }
-}
+/// Sizes, listed with a space between two.
+struct OfSizes;
 
-/// Whether all rows hold, over a ground of a and b.
-fn are_rows(alloc: Global, rows: &[&str]) -> bool {
-    let Some(instance) = instance_of(alloc, "ground a b") else {
-        return false;
-    };
-    for row in rows {
-        if !is_row(alloc, &instance, row) {
-            return false;
-        }
+impl Read for OfSizes {
+    type Found = Vec<i128>;
+
+    fn read(alloc: Global, instance: &Instance, text: &[u8]) -> Result<Vec<i128>, TextEnd> {
+        read_sizes(alloc, instance, text)
     }
-    true
+
+    fn is_listed(sizes: &Vec<i128>, list: &str) -> bool {
+        are_listed(sizes, list)
+    }
 }
 
 /// The frame of the text.
@@ -78,7 +62,7 @@ const FRAMES: [&str; 20] = [
 
 #[test]
 fn a_text_of_sizes_has_its_frame(rt: HostRuntime) {
-    assert!(rt; are_rows(rt.alloc(), &FRAMES));
+    assert!(rt; are_rows::<OfSizes>(rt.alloc(), GROUND, &FRAMES));
 }
 
 /// The lines of the text.
@@ -118,13 +102,13 @@ const LINES: [&str; 31] = [
 
 #[test]
 fn lines_of_sizes_have_their_reasons(rt: HostRuntime) {
-    assert!(rt; are_rows(rt.alloc(), &LINES));
+    assert!(rt; are_rows::<OfSizes>(rt.alloc(), GROUND, &LINES));
 }
 
 /// Whether a text with a byte past `~` is told so, over a ground of a and b.
 fn is_byte_told(alloc: Global, text: &[u8], told: &str) -> bool {
-    match instance_of(alloc, "ground a b") {
-        Some(instance) => is_told(alloc, &instance, text, told),
+    match instance_of(alloc, GROUND) {
+        Some(instance) => is_told::<OfSizes>(alloc, &instance, text, told),
         None => false,
     }
 }
