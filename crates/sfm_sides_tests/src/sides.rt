@@ -1,26 +1,21 @@
 // What terms turned round answer, worked by hand; and walks over bases of terms of every kind, on either side: from the first base as
 // much as can be is exchanged between each two places in turn, and after each exchange a note that came along is to tell the rows and
 // the rooms that the term tells without it. Each is tried by a function that answers yes or no, and no where memory lacks.
-ghost use Rattle.std.specs.{Prelude.{◌≡◌, ◌≢◌, ◌↔◌, ◌<◌, ◌*◌, ◌^◌, ◌≤ℤ◌, length, pos, IsTrue, IfOk, IfSome}, List.{All}};
-ghost use Rattle.sfm_spec.specs.{Bounds.{IsEntry, IsFactor}, Terms.{times}};
+ghost use Rattle.std.specs.Prelude.{◌≡◌, ◌<◌, ◌*◌, ◌^◌, ◌≤ℤ◌, length, pos, IsTrue};
+ghost use Rattle.sfm_spec.specs.{Bounds.{IsFactor}, Terms.{times}};
 ghost use Rattle.sfm_law.specs.Based.{IsBased, IsPair, CanSwap};
-ghost use Rattle.sfm_kind.specs.Kinds.{kind_size};
-ghost use Rattle.sfm_sides_tests.specs.Fit.{IsFit};
 
 use sfm_base::{Memory, Set};
 use sfm_concave::{Concave, Uniform};
 use sfm_flip::Flip;
 use sfm_kind::Kind;
 use sfm_laminar::{Groups, Laminar};
-use sfm_law::{At, Lead, Room, Swap, Term, exchange};
+use sfm_law::{At, Room, Swap, Term, exchange};
 use sfm_matroid::{Entries, Graphic, Transversal};
 use sfm_sides::Side;
 use sfm_simple::{Cover, Cut, Need, Table, Weight};
+use sfm_trial::{MOST_ENTRY, is_base, is_reach, is_small, tells_room, tells_row};
 use std::alloc::Global;
-
-const MOST_ENTRY: i128 = 1_000_000_000_000_000_000_000_000_000_000;
-
-const MOST_SIZE: i128 = 1_000_000_000_000_000_000;
 
 const MOST_HALF: i128 = 500_000_000_000_000_000;
 
@@ -29,63 +24,6 @@ const Q: i128 = 2;
 
 /// How many kinds there are.
 const KINDS: usize = 10;
-
-/// Whether each number is a possible entry of a base.
-fn are_entries(x: &[i128]) -> bool
-    ensures { IsTrue result ↔ All IsEntry x.now }
-{
-    x.iter().all(|a| -MOST_ENTRY <= *a && *a <= MOST_ENTRY)
-}
-
-/// Whether a number is a factor.
-fn is_factor(q: i128) -> bool
-    ensures { IsTrue result ↔ IsFactor q }
-{
-    1 <= q && q <= 1_000_000
-}
-
-/// Whether a term is not too large to be asked for bases.
-fn is_small<T: Term>(term: &T) -> bool
-    ensures { IsTrue result ↔ T.size_of term.now ≤ℤ pos (10 ^ 18) }
-{
-    term.size() <= MOST_SIZE
-}
-
-/// Whether a vector has a number for each place of a term.
-fn is_sized<T: Term>(term: &T, x: &[i128]) -> bool
-    ensures { IsTrue result ↔ length x.now ≡ length (T.places term.now) }
-{
-    x.len() == term.elements().len()
-}
-
-/// Whether a factor, a term and a vector are such that bases can be asked for.
-fn fits<T: Term>(term: &T, q: i128, x: &[i128]) -> bool
-    ensures { IsTrue result → IsFit T.places T.size_of term.now q x.now }
-{
-    is_factor(q) && is_small(term) && is_sized(term, x) && are_entries(x)
-}
-
-/// What a term tells of a vector: whether it is a base of q times the term, with all numbers within the bounds.
-fn tells_base<T: Term>(alloc: Global, term: &T, q: i128, x: &[i128]) -> Result<bool, Memory>
-    ensures { IfOk result (λ r. IsTrue r → IsBased T.places T.value_of T.size_of term.now q
-        x.now) }
-{
-    if fits(term, q, x) {
-        term.is_base(alloc, q, x)
-    } else {
-        Ok(false)
-    }
-}
-
-/// Whether a vector is a base of q times a term.
-fn is_base<T: Term>(alloc: Global, term: &T, q: i128, x: &[i128]) -> bool
-    ensures { IsTrue result → IsBased T.places T.value_of T.size_of term.now q x.now }
-{
-    match tells_base(alloc, term, q, x) {
-        Ok(found) => found,
-        Err(_) => false,
-    }
-}
 
 /// The first base of q times a term, if memory is there.
 fn first_base<T: Term>(alloc: Global, term: &T, q: i128) -> Option<Vec<i128>>
@@ -99,53 +37,6 @@ fn first_base<T: Term>(alloc: Global, term: &T, q: i128) -> Option<Vec<i128>>
         Ok(()) => Some(x),
         Err(_) => None,
     }
-}
-
-/// Whether two parts are the same.
-fn is_same(s: &Set, other: &Set) -> bool {
-    s.len() == other.len() && s.is_within(other) && other.is_within(s)
-}
-
-/// The part to which a place has room at a base, if memory is there.
-fn reach_of<T: Term>(alloc: Global, term: &T, at: &At<'_>, u: usize) -> Option<Set>
-    requires based { IsBased T.places T.value_of T.size_of term.now at.now.q at.now.x.now }
-    requires from { u < length at.now.x.now }
-{
-    let Ok(mut to) = Set::whole(alloc, at.x.len()) else {
-        return None;
-    };
-    match term.reach(alloc, at, u, &mut to) {
-        Ok(()) => Some(to),
-        Err(_) => None,
-    }
-}
-
-/// Whether the part to which a place has room at a base is that one.
-fn is_reach<T: Term>(alloc: Global, term: &T, at: &At<'_>, u: usize, wanted: &Set) -> bool
-    requires based { IsBased T.places T.value_of T.size_of term.now at.now.q at.now.x.now }
-    requires from { u < length at.now.x.now }
-{
-    match reach_of(alloc, term, at, u) {
-        Some(to) => is_same(&to, wanted),
-        None => false,
-    }
-}
-
-/// Whether a note tells the row of u at a base.
-fn tells_row<T: Term>(alloc: Global, term: &T, at: &At<'_>, note: &mut T::Note, u: usize) -> bool
-    requires based { IsBased T.places T.value_of T.size_of term.now at.now.q at.now.x.now }
-    requires noted { T.fits term.now note.old at.now.q at.now.x.now }
-    requires from { u < length at.now.x.now }
-    ensures noted { IsTrue result → T.fits term.now note.new at.now.q at.now.x.now }
-{
-    let Ok(mut to) = Set::whole(alloc, at.x.len()) else {
-        return false;
-    };
-    let lead = Lead { from: u, onto: u };
-    let Ok(()) = term.reach_by(alloc, at, note, &lead, &mut to) else {
-        return false;
-    };
-    is_reach(alloc, term, at, u, &to)
 }
 
 /// Whether a note tells each row at a base.
@@ -182,7 +73,7 @@ fn exchange_by<T: Term>(
     let at = At { q, x: x.as_slice() };
     let moved = term.moved(alloc, &at, note, swap).is_ok();
     exchange(term, q, x, swap.u, swap.v, swap.a);
-    moved && is_base(alloc, term, q, x)
+    moved && is_base(alloc, term, &At { q, x })
 }
 
 /// A place that is raised and one that is lowered.
@@ -190,47 +81,6 @@ fn exchange_by<T: Term>(
 struct Pair {
     u: usize,
     v: usize,
-}
-
-/// Whether a note tells how much of an amount a room has.
-fn tells_upto<T: Term>(
-    alloc: Global,
-    term: &T,
-    at: &At<'_>,
-    note: &mut T::Note,
-    swap: &Swap,
-    room: Room,
-) -> bool
-    requires based { IsBased T.places T.value_of T.size_of term.now at.now.q at.now.x.now }
-    requires noted { T.fits term.now note.old at.now.q at.now.x.now }
-    requires pair { IsPair swap.now.u swap.now.v at.now.x.now }
-    requires wanted { pos 0 ≤ℤ swap.now.a }
-    ensures noted { IsTrue result → T.fits term.now note.new at.now.q at.now.x.now }
-{
-    match term.room_by(alloc, at, note, swap) {
-        Ok(most) => most == room.upto(swap.a),
-        Err(_) => false,
-    }
-}
-
-/// Whether a note tells the room of two places at a base, where a lot is wanted and where 1 is.
-fn tells_room<T: Term>(
-    alloc: Global,
-    term: &T,
-    at: &At<'_>,
-    note: &mut T::Note,
-    pair: Pair,
-    room: Room,
-) -> bool
-    requires based { IsBased T.places T.value_of T.size_of term.now at.now.q at.now.x.now }
-    requires noted { T.fits term.now note.old at.now.q at.now.x.now }
-    requires pair { IsPair pair.u pair.v at.now.x.now }
-    ensures noted { IsTrue result → T.fits term.now note.new at.now.q at.now.x.now }
-{
-    let Pair { u, v } = pair;
-    let a = MOST_ENTRY;
-    tells_upto(alloc, term, at, note, &Swap { u, v, a }, room)
-        && tells_upto(alloc, term, at, note, &Swap { u, v, a: 1 }, room)
 }
 
 /// Exchanges as much as can be between two places of a base, where there is a bound, and brings a note up to that, which is to tell
@@ -254,7 +104,7 @@ fn step<T: Term>(
     let Ok(room) = term.room(alloc, &at, pair.u, pair.v) else {
         return false;
     };
-    if !tells_room(alloc, term, &at, note, pair, room) {
+    if !tells_room(alloc, term, &at, note, pair.u, pair.v) {
         return false;
     }
     match room {
@@ -343,7 +193,9 @@ fn walks<T: Term>(alloc: Global, term: &T) -> bool {
         return false;
     }
     match first_base(alloc, term, Q) {
-        Some(mut x) => is_base(alloc, term, Q, &x) && tells_from(alloc, term, Q, &mut x),
+        Some(mut x) => {
+            is_base(alloc, term, &At { q: Q, x: &x }) && tells_from(alloc, term, Q, &mut x)
+        }
         None => false,
     }
 }
@@ -458,13 +310,14 @@ fn has_rooms<T: Term>(alloc: Global, term: &T, at: &At<'_>, rooms: &[Told]) -> b
 /// Whether a term has those rooms at what is to be a base of it, and there room from the first place to the other two.
 fn answers<T: Term>(alloc: Global, term: &T, x: &[i128], rooms: &[Told]) -> bool {
     let at = At { q: 1, x };
-    if x.len() != 3 || !is_base(alloc, term, 1, x) || !has_rooms(alloc, term, &at, rooms) {
+    if x.len() != 3 || !is_base(alloc, term, &at) || !has_rooms(alloc, term, &at, rooms) {
         return false;
     }
-    let Some(to) = reach_of(alloc, term, &at, 0) else {
+    let Ok(mut others) = Set::whole(alloc, 3) else {
         return false;
     };
-    to.len() == 3 && !to.contains(0) && to.contains(1) && to.contains(2)
+    others.remove(0);
+    is_reach(alloc, term, &at, 0, &others)
 }
 
 /// Whether the first base of a term is that one.

@@ -15,13 +15,14 @@
 // A row costs no proof, since the functions that read and try it are proved for every table. They answer yes or no.
 use crate::numbers::numbers_of;
 use crate::trial::{
-    has_places, has_reach, has_room, has_size, has_values, is_base, is_no_base, part, starts,
+    has_places, has_reach, has_room, has_size, has_values, is_no_base, part, starts,
 };
 use crate::{concave, graphs, laminar, simple, slots};
 use sfm_base::Set;
 use sfm_kind::Kind;
 use sfm_law::{At, Term};
 use sfm_text::read_pieces;
+use sfm_trial::is_base;
 use std::alloc::Global;
 use std::process::Abort;
 

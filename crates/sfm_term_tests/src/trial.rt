@@ -2,46 +2,16 @@
 // the same, at the base and after an exchange. Each is asked by a function that answers yes or no, and no where memory lacks. Parts
 // are told by their numbers, place j counting 2^j.
 ghost use Rattle.std.specs.{Prelude.{◌≡◌, ◌↔◌, ◌<◌, ◌^◌, ◌*ℤ◌, ◌≤ℤ◌, ◌∷◌, [], length, map, pos, IsTrue, IfOk, IfSome}, List.{All}};
-ghost use Rattle.sfm_spec.specs.{Bounds.{IsAtMost, IsEntry, IsFactor}, Terms.{times, exchanged}};
+ghost use Rattle.sfm_spec.specs.{Bounds.{IsAtMost, IsFactor}, Terms.{times, exchanged}};
 ghost use Rattle.sfm_law.specs.Based.{IsBased, IsPair, CanSwap};
-ghost use Rattle.sfm_term_tests.specs.Fit.{IsFit};
 
 use crate::numbers::{NO, count_at};
 use sfm_base::{Memory, Rows, Set};
-use sfm_law::{At, Lead, Room, Swap, Term, exchange};
+use sfm_law::{At, Room, Swap, Term, exchange};
+use sfm_trial::{
+    MOST_ENTRY, is_base, is_factor, is_fit, is_reach, is_small, tells_base, tells_room, tells_row,
+};
 use std::alloc::Global;
-
-const MOST_ENTRY: i128 = 1_000_000_000_000_000_000_000_000_000_000;
-
-const MOST_SIZE: i128 = 1_000_000_000_000_000_000;
-
-/// Whether each number is a possible entry of a base.
-fn are_entries(x: &[i128]) -> bool
-    ensures { IsTrue result ↔ All IsEntry x.now }
-{
-    x.iter().all(|a| -MOST_ENTRY <= *a && *a <= MOST_ENTRY)
-}
-
-/// Whether a number is a factor.
-fn is_factor(q: i128) -> bool
-    ensures { IsTrue result ↔ IsFactor q }
-{
-    1 <= q && q <= 1_000_000
-}
-
-/// Whether a term is not too large to be asked for bases.
-fn is_small<T: Term>(term: &T) -> bool
-    ensures { IsTrue result ↔ T.size_of term.now ≤ℤ pos (10 ^ 18) }
-{
-    term.size() <= MOST_SIZE
-}
-
-/// Whether a vector has a number for each place of a term.
-fn is_sized<T: Term>(term: &T, x: &[i128]) -> bool
-    ensures { IsTrue result ↔ length x.now ≡ length (T.places term.now) }
-{
-    x.len() == term.elements().len()
-}
 
 /// The part of k places with a number.
 pub(crate) fn part(alloc: Global, k: usize, number: usize) -> Result<Set, Memory>
@@ -111,118 +81,12 @@ pub(crate) fn starts<T: Term>(alloc: Global, term: &T, at: &At<'_>) -> bool {
     is_factor(at.q) && is_small(term) && is_start(alloc, term, at)
 }
 
-/// Whether a factor, a term and a vector are such that bases can be asked for.
-fn fits<T: Term>(term: &T, q: i128, x: &[i128]) -> bool
-    ensures { IsTrue result → IsFit T.places T.size_of term.now q x.now }
-{
-    is_factor(q) && is_small(term) && is_sized(term, x) && are_entries(x)
-}
-
-/// What a term tells of a vector: whether it is a base of q times the term, with all numbers within the bounds.
-fn tells_base<T: Term>(alloc: Global, term: &T, at: &At<'_>) -> Result<bool, Memory>
-    ensures { IfOk result (λ r. IsTrue r → IsBased T.places T.value_of T.size_of term.now at.now.q
-        at.now.x.now) }
-{
-    if fits(term, at.q, at.x) {
-        term.is_base(alloc, at.q, at.x)
-    } else {
-        Ok(false)
-    }
-}
-
-/// Whether a vector is a base of q times a term.
-pub(crate) fn is_base<T: Term>(alloc: Global, term: &T, at: &At<'_>) -> bool
-    ensures { IsTrue result → IsBased T.places T.value_of T.size_of term.now at.now.q
-        at.now.x.now }
-{
-    match tells_base(alloc, term, at) {
-        Ok(found) => found,
-        Err(_) => false,
-    }
-}
-
 /// Whether bases of q times a term can be asked for, and a vector is none.
 pub(crate) fn is_no_base<T: Term>(alloc: Global, term: &T, at: &At<'_>) -> bool {
     match tells_base(alloc, term, at) {
-        Ok(found) => !found && fits(term, at.q, at.x),
+        Ok(found) => !found && is_fit(term, at),
         Err(_) => false,
     }
-}
-
-/// Whether two parts are the same.
-fn is_same(s: &Set, other: &Set) -> bool {
-    s.len() == other.len() && s.is_within(other) && other.is_within(s)
-}
-
-/// Whether the part to which a place has room at a base is that one.
-fn is_reach<T: Term>(alloc: Global, term: &T, at: &At<'_>, u: usize, wanted: &Set) -> bool
-    requires based { IsBased T.places T.value_of T.size_of term.now at.now.q at.now.x.now }
-    requires from { u < length at.now.x.now }
-{
-    let Ok(mut to) = part(alloc, at.x.len(), 5) else {
-        return false;
-    };
-    let reached = term.reach(alloc, at, u, &mut to).is_ok();
-    reached && is_same(&to, wanted)
-}
-
-/// Whether a note tells the row of u at a base.
-fn tells_reach<T: Term>(alloc: Global, term: &T, at: &At<'_>, note: &mut T::Note, u: usize) -> bool
-    requires based { IsBased T.places T.value_of T.size_of term.now at.now.q at.now.x.now }
-    requires noted { T.fits term.now note.old at.now.q at.now.x.now }
-    requires from { u < length at.now.x.now }
-    ensures noted { IsTrue result → T.fits term.now note.new at.now.q at.now.x.now }
-{
-    let Ok(mut to) = part(alloc, at.x.len(), 6) else {
-        return false;
-    };
-    let lead = Lead { from: u, onto: u };
-    let Ok(()) = term.reach_by(alloc, at, note, &lead, &mut to) else {
-        return false;
-    };
-    is_reach(alloc, term, at, u, &to)
-}
-
-/// Whether a note tells how much of an amount a room has.
-fn tells_upto<T: Term>(
-    alloc: Global,
-    term: &T,
-    at: &At<'_>,
-    note: &mut T::Note,
-    swap: &Swap,
-    room: Room,
-) -> bool
-    requires based { IsBased T.places T.value_of T.size_of term.now at.now.q at.now.x.now }
-    requires noted { T.fits term.now note.old at.now.q at.now.x.now }
-    requires pair { IsPair swap.now.u swap.now.v at.now.x.now }
-    requires wanted { pos 0 ≤ℤ swap.now.a }
-    ensures noted { IsTrue result → T.fits term.now note.new at.now.q at.now.x.now }
-{
-    match term.room_by(alloc, at, note, swap) {
-        Ok(most) => most == room.upto(swap.a),
-        Err(_) => false,
-    }
-}
-
-/// Whether a note tells the room of (u, v) at a base, where 1 is wanted and where a lot is.
-fn tells_room<T: Term>(
-    alloc: Global,
-    term: &T,
-    at: &At<'_>,
-    note: &mut T::Note,
-    u: usize,
-    v: usize,
-) -> bool
-    requires based { IsBased T.places T.value_of T.size_of term.now at.now.q at.now.x.now }
-    requires noted { T.fits term.now note.old at.now.q at.now.x.now }
-    requires pair { IsPair u v at.now.x.now }
-{
-    let Ok(room) = term.room(alloc, at, u, v) else {
-        return false;
-    };
-    let a = MOST_ENTRY;
-    tells_upto(alloc, term, at, note, &Swap { u, v, a: 1 }, room)
-        && tells_upto(alloc, term, at, note, &Swap { u, v, a }, room)
 }
 
 /// Whether a note tells the row of u and the room of (u, v) at a base.
@@ -238,7 +102,7 @@ fn tells<T: Term>(
     requires noted { T.fits term.now note.old at.now.q at.now.x.now }
     requires pair { IsPair u v at.now.x.now }
 {
-    tells_reach(alloc, term, at, note, u) && tells_room(alloc, term, at, note, u, v)
+    tells_row(alloc, term, at, note, u) && tells_room(alloc, term, at, note, u, v)
 }
 
 /// Whether a new note tells the row of u and the room of (u, v) at a base.

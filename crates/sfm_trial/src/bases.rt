@@ -1,0 +1,77 @@
+// Whether a vector is a base of q times a term. A term may be asked for that only where all numbers are within the bounds, which is
+// seen first.
+ghost use Rattle.std.specs.{Prelude.{◌≡◌, ◌↔◌, ◌^◌, ◌≤ℤ◌, length, pos, IfOk, IsTrue}, List.{All}};
+ghost use Rattle.sfm_spec.specs.Bounds.{IsEntry, IsFactor};
+ghost use Rattle.sfm_law.specs.Based.{IsBased};
+ghost use Rattle.sfm_trial.specs.Fit.{IsFit};
+
+use sfm_base::Memory;
+use sfm_law::{At, Term};
+use std::alloc::Global;
+
+/// The greatest magnitude that an entry of a base may have.
+pub const MOST_ENTRY: i128 = 1_000_000_000_000_000_000_000_000_000_000;
+
+const MOST_SIZE: i128 = 1_000_000_000_000_000_000;
+
+/// Whether each number is a possible entry of a base.
+fn are_entries(x: &[i128]) -> bool
+    ensures { IsTrue result ↔ All IsEntry x.now }
+{
+    x.iter().all(|a| -MOST_ENTRY <= *a && *a <= MOST_ENTRY)
+}
+
+/// Whether a number is a factor.
+pub fn is_factor(q: i128) -> bool
+    ensures { IsTrue result ↔ IsFactor q }
+{
+    1 <= q && q <= 1_000_000
+}
+
+/// Whether a term is not too large to be asked for bases.
+pub fn is_small<T: Term>(term: &T) -> bool
+    ensures { IsTrue result ↔ T.size_of term.now ≤ℤ pos (10 ^ 18) }
+{
+    term.size() <= MOST_SIZE
+}
+
+/// Whether a vector has a number for each place of a term.
+fn is_sized<T: Term>(term: &T, x: &[i128]) -> bool
+    ensures { IsTrue result ↔ length x.now ≡ length (T.places term.now) }
+{
+    x.len() == term.elements().len()
+}
+
+/// Whether a factor, a term and a vector are such that bases can be asked for.
+pub fn is_fit<T: Term>(term: &T, at: &At<'_>) -> bool
+    ensures { IsTrue result → IsFit T.places T.size_of term.now at.now.q at.now.x.now }
+{
+    is_factor(at.q) && is_small(term) && is_sized(term, at.x) && are_entries(at.x)
+}
+
+/// What a term tells of a vector: whether it is a base of q times the term, with all numbers within the bounds.
+///
+/// # Errors
+///
+/// `Memory` where there is none.
+pub fn tells_base<T: Term>(alloc: Global, term: &T, at: &At<'_>) -> Result<bool, Memory>
+    ensures { IfOk result (λ r. IsTrue r → IsBased T.places T.value_of T.size_of term.now at.now.q
+        at.now.x.now) }
+{
+    if is_fit(term, at) {
+        term.is_base(alloc, at.q, at.x)
+    } else {
+        Ok(false)
+    }
+}
+
+/// Whether a vector is a base of q times a term.
+pub fn is_base<T: Term>(alloc: Global, term: &T, at: &At<'_>) -> bool
+    ensures { IsTrue result → IsBased T.places T.value_of T.size_of term.now at.now.q
+        at.now.x.now }
+{
+    match tells_base(alloc, term, at) {
+        Ok(found) => found,
+        Err(_) => false,
+    }
+}
