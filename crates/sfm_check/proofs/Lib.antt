@@ -15,3 +15,4 @@ pub mod AtZero
 pub mod KeptSlopes
 pub mod Short
 pub mod Telling
+pub mod Ratios

@@ -1,5 +1,5 @@
 -- What the steps of a judgement find of an answer: of its rows, of its sections, and of what it says.
-use Rattle.std.specs.Prelude.{◌≡◌, ◌≢◌, ◌⊎◌, ℕ, zero, suc, ◌+◌, ◌<◌, ◌≤◌, Bool, List, [], length, slice_index_or, ℤ, pos}
+use Rattle.std.specs.Prelude.{◌≡◌, ◌≢◌, ◌⊎◌, ℕ, zero, suc, ◌+◌, ◌<◌, ◌≤◌, Bool, List, [], length, slice_index_or, ℤ, pos, ◌*ℤ◌}
 use Rattle.std.specs.List.{All}
 use Rattle.sfm_spec.specs.Sets.{empty_set, size, whole_set}
 use Rattle.sfm_spec.specs.Laws.{Mark}
@@ -17,6 +17,10 @@ use Rattle.sfm_check.specs.declared.verdicts.Wrong.TheVariants.{Long, Grammar, B
 use Rattle.sfm_check.specs.declared.verdicts.Verdict.{Verdict}
 use Rattle.sfm_check.specs.declared.verdicts.Verdict.TheVariants.{Valid, Invalid}
 use Rattle.sfm_check.specs.Verdict.{IsBaseAt, IsFirstNoBase, IsFirstUnproved, IsFirstWrong, due_lines}
+
+-- the first k entries of x are to q as those of y are to p
+abbrev pub AreInRatio : ℕ → ℤ → List ℤ → ℤ → List ℤ → Type 0
+AreInRatio k q x p y = (i : ℕ) → i < k → (p *ℤ slice_index_or x i (pos 0)) ≡ (q *ℤ slice_index_or y i (pos 0))
 
 -- each row is a base of its term, times q
 abbrev pub AreBasesIn : List Meaning → ℤ → List (List ℤ) → Type 0

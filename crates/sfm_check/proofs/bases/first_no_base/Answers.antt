@@ -1,50 +1,33 @@
-use Rattle.std.proofs.Common.{◌≡◌, ℕ, ◌+◌, ◌<◌, ◌^◌, List, length, map, get_or, pos, ◌≤ℤ◌, ⊎_elim, refl, sym, ap, ◌∙◌, subst, arith, FitsSigned}
+use Rattle.std.proofs.Common.{◌≡◌, ℕ, ◌+◌, ◌<◌, List, length, map, ⊎_elim, refl, sym, ap, ◌∙◌, subst, arith}
 use Rattle.std.proofs.lemmas.Bool.{cases_lt}
-use Rattle.std.proofs.lemmas.Int.{ints, to_z-of_z}
 use Rattle.std.proofs.lemmas.List.{length-map}
-use mir.Syntax.{w128}
 use Rattle.sfm_spec.specs.Families.{meanings}
 use Rattle.sfm_kind.specs.declared.kind.Kind.{Kind}
 use Rattle.sfm_kind.specs.Limits.{AreInBounds}
-use Rattle.sfm_kind.specs.Kinds.{kind_places, kind_value, kind_size}
+use Rattle.sfm_kind.specs.Kinds.{kind_places, kind_value}
 use Rattle.sfm_extreme.specs.Blocks.{block_of}
 use Rattle.sfm_law.proofs.Lists.{length-meanings}
 use Rattle.sfm_cert.specs.Answer.{line_at}
 use Rattle.sfm_cert.specs.Solved.{answer_of, break_of, form_of}
-use Rattle.sfm_check.specs.Truth.{section_at, sections_of, section_of as section_from}
+use Rattle.sfm_check.specs.Truth.{section_at, section_of as section_from}
 use Rattle.sfm_check.specs.Verdict.{IsBaseAt}
 use Rattle.sfm_check.specs.Findings.{AreBasesIn, IsFirstNoBaseIn}
-use Rattle.sfm_check.proofs.Forming.{IsFormedSection, few_lines, formed_parts, section_in, small_sizes}
-use Rattle.sfm_check.proofs.bases.first_no_base.Goals.{After-section_of-section, In-Some}
+use Rattle.sfm_check.proofs.Forming.{few_lines, section_in}
+use Rattle.sfm_check.proofs.bases.first_no_base.Goals.{In-Some}
 use Rattle.sfm_check.proofs.bases.first_no_base.Goals as goal
 
--- there is a section at the place, and it is of good form
-section : (c : After-section_of-section) → (c.loop-s.s < length (sections_of (answer_of c.args.solved.now)))
-    × IsFormedSection (form_of c.args.instance.now).widths (record { num = c.section_of-section.result.num; den = c.section_of-section.result.den; bases = c.section_of-section.result.bases.now })
-section c =
-    let ls = section_in c.args.solved.now.breaks.items (answer_of c.args.solved.now) c.loop-s.s _ refl (c.len-s-end.ensures ∙ c.args.solved.now.breaks.ok.0) c.loop-s-test.true in
-    (ls, formed_parts c.requires.formed ls c.section_of-section.ensures)
+pub first_no_base_at-requires-clause-at : goal.first_no_base_at-requires-clause-at
+first_no_base_at-requires-clause-at c = section_in c.args.solved.now.breaks.items (answer_of c.args.solved.now) c.loop-s.s _ refl (c.len-s-end.ensures ∙ c.args.solved.now.breaks.ok.0) c.loop-s-test.true
 
-pub first_no_base_in-requires-clause-factor : goal.first_no_base_in-requires-clause-factor
-first_no_base_in-requires-clause-factor c =
-    let f = (section (goal.at.first_no_base_in-requires-clause-factor c).After-section_of-section).1.factor in
-    let fd : FitsSigned w128 c.section_of-section.result.den = omega (arith, ints, f) in
-    simp to_z-of_z f
-
-pub first_no_base_in-requires-clause-bounded : goal.first_no_base_in-requires-clause-bounded
-first_no_base_in-requires-clause-bounded c =
-    let small : (k : ℕ) (d : Kind) → k < length c.args.instance.now.terms → kind_size (get_or c.args.instance.now.terms k d) ≤ℤ pos (10 ^ 18) = small_sizes (length c.args.instance.now.names) c.args.instance.now.terms c.terms-terms.ensures.bounded in
-    rw c.terms-terms.ensures.terms small
-
-pub first_no_base_in-requires-clause-rows : goal.first_no_base_in-requires-clause-rows
-first_no_base_in-requires-clause-rows c = rw c.terms-terms.ensures.terms (section (goal.at.first_no_base_in-requires-clause-rows c).After-section_of-section).1.rows
+pub first_no_base_at-requires-clause-before : goal.first_no_base_at-requires-clause-before
+first_no_base_at-requires-clause-before c = λ k i l li. c.loop-s.invariant k i l li
 
 few_terms : (n : ℕ) (ts : List Kind) (i : ℕ) → AreInBounds n ts → i < length (meanings kind_places kind_value ts) → i < 16384
 few_terms n ts i bounded l = omega (arith, l, bounded.few_terms, length-meanings kind_places kind_value ts, length-map ts kind_places)
 
 few_found : (c : In-Some) → c.in-Some.i < 16384
 few_found c =
-    let raw = rw (c.in-Some.is, c.terms-terms.ensures.terms) at c.in_ok-i.ensures in
+    let raw = rw c.in-Some.is at c.in_ok-i.ensures in
     few_terms _ c.args.instance.now.terms c.in-Some.i c.terms-terms.ensures.bounded raw.is_term
 
 pub overflow_add-i : goal.overflow_add-i
@@ -62,19 +45,11 @@ line_of_base-line-requires-clause-slopes c = let lines = few_lines (form_of c.ar
 pub line_of_base-line-requires-clause-section : goal.line_of_base-line-requires-clause-section
 line_of_base-line-requires-clause-section c = let lines = few_lines (form_of c.args.instance.now) (answer_of c.args.solved.now) in omega (arith, lines, c.requires.few, c.args.solved.now.breaks.ok.0, c.loop-s-test.true, c.len-s-end.ensures, length-map c.args.solved.now.breaks.items break_of)
 
-pub section_of-section-requires : goal.section_of-section-requires
-section_of-section-requires c = section_in c.args.solved.now.breaks.items (answer_of c.args.solved.now) c.loop-s.s _ refl (c.len-s-end.ensures ∙ c.args.solved.now.breaks.ok.0) c.loop-s-test.true
-
 pub loop-s-preserved : goal.loop-s-preserved
 loop-s-preserved c = λ s i l k.
     let a = answer_of c.args.solved.now in
     let ts = c.args.instance.now.terms in
-    let (ls, formed) = section (goal.at.loop-s-preserved c).After-section_of-section in
-    let f = formed.factor in
-    let fd : FitsSigned w128 c.section_of-section.result.den = omega (arith, ints, f) in
-    let raw = rw (c.in_default.is, c.terms-terms.ensures.terms) at c.in_ok-i.ensures in
-    let plain : AreBasesIn (meanings kind_places kind_value ts) c.section_of-section.result.den c.section_of-section.result.bases.now = simp to_z-of_z at raw in
-    let told : AreBasesIn (meanings kind_places kind_value ts) (section_at a c.loop-s.s).den (section_at a c.loop-s.s).bases = rw (c.section_of-section.ensures.den_is, c.section_of-section.ensures.rows_are) plain in
+    let told : AreBasesIn (meanings kind_places kind_value ts) (section_at a c.loop-s.s).den (section_at a c.loop-s.s).bases = rw c.in_default.is at c.in_ok-i.ensures in
     ⊎_elim
     (λ less. c.loop-s.invariant s i less k)
     (λ ge. let same : c.loop-s.s ≡ s = omega (arith, l, ge) in subst (λ z. IsBaseAt (meanings kind_places kind_value ts) a z i) same (told i k))
@@ -87,12 +62,8 @@ returns-in-Some c =
     let items = c.args.solved.now.breaks.items in
     let breaks = c.args.solved.now.breaks.ok.0 in
     let blocks = c.args.solved.now.blocks.ok.0 in
-    let (ls, formed) = section (goal.at.returns-in-Some c).After-section_of-section in
-    let f = formed.factor in
-    let fd : FitsSigned w128 c.section_of-section.result.den = omega (arith, ints, f) in
-    let raw = rw (c.in-Some.is, c.terms-terms.ensures.terms) at c.in_ok-i.ensures in
-    let plain : IsFirstNoBaseIn (meanings kind_places kind_value ts) c.section_of-section.result.den c.section_of-section.result.bases.now c.in-Some.i = simp to_z-of_z at raw in
-    let told : IsFirstNoBaseIn (meanings kind_places kind_value ts) (section_at a c.loop-s.s).den (section_at a c.loop-s.s).bases c.in-Some.i = rw (c.section_of-section.ensures.den_is, c.section_of-section.ensures.rows_are) plain in
+    let ls = section_in items a c.loop-s.s _ refl (c.len-s-end.ensures ∙ breaks) c.loop-s-test.true in
+    let told : IsFirstNoBaseIn (meanings kind_places kind_value ts) (section_at a c.loop-s.s).den (section_at a c.loop-s.s).bases c.in-Some.i = rw c.in-Some.is at c.in_ok-i.ensures in
     let kb : c.len.result ≡ length a.blocks = c.len.ensures ∙ (blocks ∙ sym (length-map c.args.solved.now.blocks.items block_of)) in
     let kj : c.len-in-Some.result ≡ length a.breaks = c.len-in-Some.ensures ∙ (breaks ∙ sym (length-map items break_of)) in
     let km : length c.terms-terms.result.now ≡ length (meanings kind_places kind_value ts) = ap length c.terms-terms.ensures.terms ∙ sym (length-meanings kind_places kind_value ts) in
