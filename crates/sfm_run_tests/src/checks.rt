@@ -114,7 +114,12 @@ invalid 8 base|:answer 1|minimum -2|least a b|greatest a b|slope -1/1 a b|at 0/1
 invalid 6 unproved|:answer 1|minimum -2|least a b|greatest a b|slope -1/1 a b|at 0/1|base 1 -1 -3|base 2 2 0|at -1/1|base 1 -1 -3|base 2 0 2|end|";
 
 const OVER_A_TRIANGLE: &str = "\
-valid|:answer 1|minimum -2|least a b c|greatest a b c|slope -2/3 a b c|at 0/1|base 1 -2 -2 -2|base 2 2 1 1|at -2/3|base 1 -6 -6 -6|base 2 4 4 4|end|";
+valid|:answer 1|minimum -2|least a b c|greatest a b c|slope -2/3 a b c|at 0/1|base 1 -2 -2 -2|base 2 2 1 1|at -2/3|base 1 -6 -6 -6|base 2 4 4 4|end|
+invalid 9 unproved|:answer 1|minimum -2|least a b c|greatest a b c|slope -2/3 a b c|at 0/1|base 1 -2 -2 -2|base 2 2 1 1|at -2/3|base 1 -6 -6 -6|base 2 6 3 3|end|
+invalid 11 base|:answer 1|minimum -2|least a b c|greatest a b c|slope -2/3 a b c|at 0/1|base 1 -2 -2 -2|base 2 2 1 1|at -2/3|base 1 -6 -6 -6|base 2 6 3 4|end|
+invalid 10 base|:answer 1|minimum -2|least a b c|greatest a b c|slope -2/3 a b c|at 0/1|base 1 -2 -2 -2|base 2 2 1 1|at -2/3|base 1 -6 -6 -5|base 2 6 3 3|end|
+invalid 10 base|:answer 1|minimum -2|least a b c|greatest a b c|slope -2/3 a b c|at 0/1|base 1 -2 -2 -2|base 2 2 1 1|at -2/3|base 1 -2 -2 -2|base 2 4 4 4|end|
+invalid 8 base|:answer 1|minimum -2|least a b c|greatest a b c|slope -2/3 a b c|at 0/1|base 1 -2 -2 -2|base 2 2 1 2|at -2/3|base 1 -6 -6 -6|base 2 6 3 6|end|";
 
 const OVER_A_LOOP: &str = "\
 invalid 8 base|:answer 1|minimum -1|least a|greatest a|slope -1/1 a|at 0/1|base 1 -1|base 2 1|at -1/1|base 1 -1|base 2 0|end|";
