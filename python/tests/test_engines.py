@@ -35,12 +35,12 @@ def cases():
 
 
 def slow():
-    """An instance that takes seconds."""
+    """An instance that takes two seconds or more."""
     rng = random.Random(1)
     made = leastset.Instance(range(256))
-    made.weight({element: rng.randint(-900, 100) for element in made.ground})
+    made.weight({element: rng.randint(-9_000_000, 1_000_000) for element in made.ground})
     for _ in range(60):
-        made.rank_graphic(rng.randint(1, 50), {element: (rng.randrange(60), rng.randrange(60)) for element in made.ground})
+        made.rank_graphic(rng.randint(1, 50_000), {element: (rng.randrange(120), rng.randrange(120)) for element in made.ground})
     return made.text()
 
 
@@ -95,7 +95,7 @@ class Engines(Test):
                 run = subprocess.Popen(words, stdin=subprocess.PIPE, stdout=subprocess.PIPE, start_new_session=True, env=alone)
                 run.stdin.write(slow().encode())
                 run.stdin.close()
-                time.sleep(1.5)
+                time.sleep(1)
                 os.killpg(run.pid, signal.SIGINT)
                 self.assertIn(run.wait(10), (130, -signal.SIGINT))
                 run.stdout.close()
