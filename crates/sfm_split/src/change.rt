@@ -7,7 +7,7 @@ use crate::cells::Cells;
 use crate::demand::Demand;
 use crate::left::Lefts;
 use crate::lower::{turn_demands, turn_slots};
-use crate::splitting::{AssignEnd, Shares, search_all};
+use crate::splitting::{AssignEnd, Shares, raise_all};
 use crate::work::{Work, copy_list, write_zeros};
 use sfm_base::Memory;
 use std::alloc::Global;
@@ -85,7 +85,7 @@ pub fn find_amounts(
     begin(work, demand, shares, rooms)?;
     let cells = shares.cells.all();
     turn(cells, demand, aim, &mut work.left, &mut work.y)?;
-    let told = search_all(alloc, cells, &mut work.rest, &mut work.left, &mut work.y)?;
+    let told = raise_all(alloc, cells, &mut work.rest, &mut work.left, &mut work.y)?;
     if let Some(set) = told {
         return Err(AssignEnd::Shortage { set });
     }

@@ -77,9 +77,9 @@ impl Shares {
     }
 }
 
-/// Raises amounts by searches until each demand gets what it asks for; or, where one still lacks something, tells a closed set with
-/// all that do. What is left is kept with them.
-pub(crate) fn search_all(
+/// Raises amounts until each demand gets what it asks for, first on slots that have room, then by searches; or, where one still
+/// lacks something, tells a closed set with all that do. What is left is kept with them.
+pub(crate) fn raise_all(
     alloc: Global,
     cells: &Cells,
     rest: &mut Rest,
@@ -94,6 +94,7 @@ pub(crate) fn search_all(
     ensures told { IfOk result (IsToldOf cells.now.whos.items cells.now.slots.items y.new
         left.new.lacks.items left.new.rooms.items) }
 {
+    pour(cells, left, y);
     let search = fill_from(alloc, cells, rest, left, y)?;
     if left.first_lacking().is_some() {
         let set = found_set(alloc, &search.nodes)?;
@@ -102,28 +103,6 @@ pub(crate) fn search_all(
     }
     rest.keep(search);
     Ok(None)
-}
-
-/// Raises amounts until each demand gets what it asks for, first cell by cell, then by searches; or tells a closed set with all
-/// that still lack something.
-fn raise_all(
-    alloc: Global,
-    cells: &Cells,
-    rest: &mut Rest,
-    left: &mut Lefts,
-    y: &mut [i128],
-) -> Result<Option<Set>, Memory>
-    requires within { AreWithin cells.now.whos.items cells.now.slots.items y.old
-        left.old.lacks.items left.old.rooms.items }
-    ensures raised { IfOk result (λ _. AreRaised cells.now.whos.items cells.now.slots.items y.old
-        left.old.lacks.items left.old.rooms.items y.new left.new.lacks.items left.new.rooms.items) }
-    ensures told { IfOk result (IsToldOf cells.now.whos.items cells.now.slots.items y.new
-        left.new.lacks.items left.new.rooms.items) }
-{
-    pour(cells, left, y);
-    left.list_lacking()?;
-    let set = search_all(alloc, cells, rest, left, y)?;
-    Ok(set)
 }
 
 /// Raises amounts until each demand gets what it asks for.
@@ -139,6 +118,7 @@ fn raise_to(alloc: Global, demand: &Demand, cells: &Cells, y: &mut [i128]) -> Re
 {
     let demands = demand.demands();
     let mut left = lefts_of(alloc, cells, demands, demand.capacities(), y)?;
+    left.list_lacking()?;
     let mut rest = Rest::new(alloc);
     if let Some(set) = raise_all(alloc, cells, &mut rest, &mut left, y)? {
         return Err(AssignEnd::Shortage { set });

@@ -104,9 +104,9 @@ put-requires c =
     let high = poured_small w.demands w.capacities whos slots y y lacks rooms e a w.cells inv c.requires.cell h.low h.fits w.bounded in
     rw (to_z-of_z w128 a fa) (record { place = search rules; low = omega (arith, ints, low); high = omega (arith, ints, high) })
 
-pub returns : goal.returns
-returns c =
-    let h = share (goal.at.returns c).After-min-a in
+pub returns-clause-raised : goal.returns-clause-raised
+returns-clause-raised c =
+    let h = share (goal.at.returns-clause-raised c).After-min-a in
     let left = c.args.left.now in
     let lacks = left.lacks.items in
     let rooms = left.rooms.items in

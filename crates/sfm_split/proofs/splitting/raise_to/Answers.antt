@@ -25,7 +25,9 @@ poured : (c : In_ok-set) → AreCells (length c.args.demand.now.demands) (length
     → IsPouring c.args.demand.now.demands c.args.demand.now.capacities c.args.cells.now.whos.items c.args.cells.now.slots.items c.args.y.now c.raise_all.new.y c.raise_all.new.left.lacks.items c.raise_all.new.left.rooms.items
 poured c lined first =
     let d = c.args.demand.now in
-    c.in_ok-set.ensures.raised.each d.demands d.capacities c.args.y.now lined first
+    let list = c.list_lacking.ensures in
+    let raised = rw (list.lacks, list.rooms) at c.in_ok-set.ensures.raised in
+    raised.each d.demands d.capacities c.args.y.now lined first
 
 pub lefts_of-requires-clause-cells : goal.lefts_of-requires-clause-cells
 lefts_of-requires-clause-cells c =
@@ -39,8 +41,10 @@ pub raise_all-requires : goal.raise_all-requires
 raise_all-requires c =
     let path = goal.at.raise_all-requires c in
     let first = begun path.In_ok-left in
+    let list = c.list_lacking.ensures in
     record {
-      within = record {
+      listed = c.in_ok-list_lacking.ensures.listed;
+      within = rw (list.lacks, list.rooms) (record {
         demands = c.args.demand.now.demands;
         capacities = c.args.demand.now.capacities;
         cells = cells path.In_ok-left;
@@ -48,7 +52,7 @@ raise_all-requires c =
         part = first.part;
         lacks_are = first.lacks_are;
         rooms_are = first.rooms_are;
-      };
+      });
     }
 
 pub returns-in-Some-clause-met : goal.returns-in-Some-clause-met
