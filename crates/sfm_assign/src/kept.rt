@@ -276,6 +276,36 @@ impl Kept {
         Ok(())
     }
 
+    /// Whether other demands can be met over the same lists, with other capacities. The split stays as it is; amounts for them are
+    /// looked for beside it.
+    ///
+    /// # Errors
+    ///
+    /// `Memory` where there is none.
+    pub fn can_meet(&self, alloc: Global, aim: &Aim) -> Result<bool, Memory>
+        requires sized { length aim.now.demands.now ≡ length self.now.demand.demands }
+        requires slots { length aim.now.capacities.now ≡ length self.now.demand.capacities }
+        requires amounts { All IsAmount aim.now.demands.now }
+        requires bounded { All IsCapacity aim.now.capacities.now }
+        ensures { IfOk result (λ r. IsTrue r ↔ CanBeMet aim.now.demands.now
+            self.now.demand.lists aim.now.capacities.now) }
+    {
+        let _sound = self.demand.demands();
+        let mut work = Work::new(alloc);
+        match find_amounts(
+            alloc,
+            &mut work,
+            &self.demand,
+            &self.shares,
+            &self.rooms,
+            aim,
+        ) {
+            Ok(()) => Ok(true),
+            Err(AssignEnd::Shortage { .. }) => Ok(false),
+            Err(AssignEnd::Memory) => Err(Memory),
+        }
+    }
+
     /// Finds amounts by which other demands are met, which can be, over the same lists and with other capacities.
     fn find_met(&self, alloc: Global, work: &mut Work, aim: &Aim) -> Result<(), Memory>
         requires sized { length aim.now.demands.now ≡ length self.now.demand.demands }
