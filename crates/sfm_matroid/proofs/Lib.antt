@@ -13,6 +13,7 @@ mod Beside
 mod Noted
 mod SlotNotes
 mod Fits
+mod Frames
 mod AnyRank
 mod Passed
 mod Kept

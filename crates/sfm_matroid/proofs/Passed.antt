@@ -6,8 +6,8 @@ use mir.Syntax.{w128}
 use Rattle.sfm_spec.specs.Bounds.{IsAtMost, IsEntry, IsFactor, IsGiven}
 use Rattle.sfm_spec.specs.Kinds.{Edge}
 use Rattle.sfm_law.proofs.Fits.{given_fits, given_more, product_fits, rank_fits}
+use Rattle.sfm_assign.specs.Splits.{IsCapacity}
 use Rattle.sfm_matroid.specs.Amounts.{AreEndAmounts, CanAdd, CanWeigh, IsWeight}
-use Rattle.sfm_matroid.specs.Notes.{AreSlotAmounts}
 use Rattle.sfm_matroid.proofs.Fits.{product_is}
 
 pub factor_fits : (q : ℤ) → IsFactor q → FitsSigned w128 q
@@ -46,9 +46,9 @@ cap_passed q w factor given c is =
 cap_fits : (c : ℤ) → pos 0 ≤ℤ c → c ≤ℤ pos (10 ^ 24) → FitsSigned w128 c
 cap_fits c low high = omega (arith, ints, low, high)
 
--- amounts and what each end, or each slot, may hold, passed on
+-- amounts and what each end may hold, passed on
 pub end_amounts_passed : (edges : List Edge) (c : ℤ) (x : List ℤ) → AreEndAmounts edges c x → AreEndAmounts edges (to_z w128 (of_z w128 c)) x
 end_amounts_passed edges c x all = subst (λ z. AreEndAmounts edges z x) (sym (to_z-of_z w128 c (cap_fits c all.low all.high))) all
 
-pub slot_amounts_passed : (entries : List (List ℕ)) (m : ℕ) (c : ℤ) (x : List ℤ) → AreSlotAmounts entries m c x → AreSlotAmounts entries m (to_z w128 (of_z w128 c)) x
-slot_amounts_passed entries m c x all = subst (λ z. AreSlotAmounts entries m z x) (sym (to_z-of_z w128 c (cap_fits c all.low all.high))) all
+pub capacity_passed : (c : ℤ) → pos 0 ≤ℤ c → c ≤ℤ pos (10 ^ 24) → IsCapacity (to_z w128 (of_z w128 c))
+capacity_passed c low high = subst IsCapacity (sym (to_z-of_z w128 c (cap_fits c low high))) (record { low = low; high = high })

@@ -1,8 +1,7 @@
 -- Bases of a transversal term by the test of its code, and how much can be exchanged at one: by the most that an element gets
 -- besides in the test, without another element; and to whom an element has room, by those that can lend to it.
-use Rattle.std.proofs.Common.{◌≡◌, ◌≢◌, ◌↔◌, ℕ, ◌<◌, ◌≤◌, ◌^◌, Bool, List, length, get_or, set, replicate, ℤ, pos, ◌+ℤ◌, ◌-ℤ◌, ◌*ℤ◌, ◌≤ℤ◌, ◌<ℤ◌, to_z, of_z, refl, sym, ap, ◌∙◌, arith, inr, get_or-set_other}
+use Rattle.std.proofs.Common.{◌≡◌, ◌≢◌, ◌↔◌, ℕ, ◌<◌, Bool, List, length, get_or, set, replicate, ℤ, pos, ◌+ℤ◌, ◌-ℤ◌, ◌*ℤ◌, ◌≤ℤ◌, ◌<ℤ◌, refl, sym, ap, ◌∙◌, arith, inr, get_or-set_other}
 use Rattle.std.specs.Int.{int_min}
-use mir.Syntax.{w128}
 use Rattle.std.specs.List.{All}
 use Rattle.std.proofs.lemmas.Int.{ints, clamps, by_lt_z}
 use Rattle.std.proofs.lemmas.List.{set-get_or}
@@ -20,7 +19,7 @@ use Rattle.sfm_assign.specs.Splits as splits
 use Rattle.sfm_assign.specs.Splits.{CanBeMet, Demands, IsAmount}
 use Rattle.sfm_assign.specs.Lenders.{IsMostUpto}
 use Rattle.sfm_matroid.specs.Amounts.{AreCapped, CanHold}
-use Rattle.sfm_matroid.specs.Notes.{AreSlotAmounts, slot_demands}
+use Rattle.sfm_matroid.specs.Notes.{slot_demands}
 use Rattle.sfm_matroid.specs.Matchings.{matching-matroid}
 use Rattle.sfm_matroid.specs.Slots.{IsWithinSlots, transversal_rank, transversal_value, transversal_size}
 use Rattle.sfm_matroid.specs.Transversals.{transversal-ranks}
@@ -28,7 +27,6 @@ use Rattle.sfm_matroid.specs.declared.transversal.Transversal.{Transversal}
 use Rattle.sfm_matroid.proofs.Fits.{amounts_count, capped, limit_of}
 use Rattle.sfm_matroid.proofs.Matched.{slots_each}
 use Rattle.sfm_matroid.proofs.MatroidTests.{transversal_tests}
-use Rattle.sfm_matroid.proofs.Passed.{slot_amounts_passed}
 use Rattle.sfm_matroid.proofs.SplitTests.{split_within_slots, within_slots_split}
 
 module _ (k : ℕ) (q w : ℤ) (entries : List (List ℕ)) (m : ℕ) (exist : All (All (λ v. v < m)) entries) (same : length entries ≡ k) (low : pos 0 ≤ℤ (q *ℤ w)) (x : List ℤ) (kx : length x ≡ k) where
@@ -192,10 +190,3 @@ pub slots_hold : (s : Transversal) (q : ℤ) (m : ℕ) (below : All (All (λ v. 
 slots_hold s q m below factor x sized base u v xu xv ne =
     let all = held_base s q m below factor x sized base in
     record { sized = refl; slots = refl; bounded = all.bounded; met = rest_met (length s.places) q s.w s.entries m below s.same_count all.capped.low x sized base u v xu xv ne }
-
--- what a test of amounts asks of the entries of a term, where a number is passed on
-pub slot_amounts : (s : Transversal) (m : ℕ) → All (All (λ v. v < m)) s.entries → m ≤ 2 ^ 24 → (c : ℤ) → pos 0 ≤ℤ c → c ≤ℤ pos (10 ^ 24) → (x : List ℤ) → length x ≡ length s.places → All IsAmount x → AreSlotAmounts s.entries m (to_z w128 (of_z w128 c)) x
-slot_amounts s m below few_slots c low high x sized amounts =
-    let same = s.same_count in
-    let few = s.few in
-    slot_amounts_passed s.entries m c x (record { few = omega (arith, same, few); sized = sized ∙ sym same; amounts = amounts; low = low; high = high; few_slots = few_slots; below = below })

@@ -41,6 +41,11 @@ pub record AreSlotAmounts (entries : List (List ℕ)) (m : ℕ) (c : ℤ) (x : L
   pub few_slots : m ≤ 2 ^ 24
   pub below : All (All (λ v. v < m)) entries
 
+-- nothing is asked for, over the slots of entries, where each of the slots holds 1
+pub record IsFrame (entries : List (List ℕ)) (d : Demands) : Type 0 where
+  pub below : All (All (λ v. v < length d.capacities)) entries
+  pub none : d ≡ slot_demands entries (length d.capacities) (pos 1) (replicate (length entries) (pos 0))
+
 -- whatever is split over the ends of edges, of which m vertices hold something
 pub record IsOverEnds (edges : List Edge) (m : ℕ) (d : Demands) : Type 0 where
   pub places : length d.demands ≡ length edges

@@ -4,6 +4,7 @@
 
 pub mod ends;
 pub mod entries;
+mod frame;
 mod givers;
 mod graph;
 pub mod graphic;

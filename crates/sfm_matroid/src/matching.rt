@@ -4,7 +4,7 @@
 ghost use Rattle.std.specs.{Prelude.{◌≡◌, ◌+◌, ◌<◌, ◌≤◌, ◌^◌, [], length, replicate, pos, IfOk, OnOk}, List.{All}};
 ghost use Rattle.sfm_assign.specs.Splits.{IsAmount};
 ghost use Rattle.sfm_spec.specs.Sets.{empty_set};
-ghost use Rattle.sfm_matroid.specs.{Matched.{IsMatchedTo}, Notes.{AreSlotAmounts, slot_demands}, Slots.{suited, transversal_basis}};
+ghost use Rattle.sfm_matroid.specs.{Matched.{IsMatchedTo}, Notes.{AreSlotAmounts, slot_demands}, Slots.{suited}};
 
 use crate::entries::Entries;
 use crate::splits::split_of;
@@ -51,7 +51,7 @@ fn push_slots(
 }
 
 /// The elements as demands that are split over the slots of their entries, of which each of m holds a number.
-pub(crate) fn slot_demand(
+fn slot_demand(
     alloc: Global,
     entries: &Entries,
     m: usize,
@@ -72,7 +72,7 @@ pub(crate) fn slot_demand(
 }
 
 /// The split over slots that hold 1 each, where no place has one yet.
-fn untaken(alloc: Global, entries: &Entries, m: usize) -> Result<Kept, Memory>
+pub(crate) fn untaken(alloc: Global, entries: &Entries, m: usize) -> Result<Kept, Memory>
     requires few { length entries.now ≤ 256 }
     requires few_slots { m ≤ 2 ^ 24 }
     requires below { All (All (λ v. v < m)) entries.now }
@@ -98,7 +98,7 @@ fn take(alloc: Global, kept: &mut Kept, s: &Set, t: &mut Set, e: usize) -> Resul
 }
 
 /// Takes the places of a set one after another, if the split of those that are taken can give each a slot too.
-fn take_each(alloc: Global, kept: &mut Kept, s: &Set) -> Result<Set, Memory>
+pub(crate) fn take_each(alloc: Global, kept: &mut Kept, s: &Set) -> Result<Set, Memory>
     requires sized { length s.now ≡ length kept.old.demand.lists }
     requires none { IsMatchedTo kept.old.demand.lists s.now 0
         (empty_set (length kept.old.demand.lists)) kept.old.demand }
@@ -111,25 +111,4 @@ fn take_each(alloc: Global, kept: &mut Kept, s: &Set) -> Result<Set, Memory>
         take(alloc, kept, s, &mut t, e)?;
     }
     Ok(t)
-}
-
-/// The places of a set that are taken one after another while their slots suffice: a place is taken where the split of those
-/// that are taken can give it a slot too.
-pub(crate) fn matched(alloc: Global, entries: &Entries, s: &Set) -> Result<Set, Memory>
-    requires few { length entries.now ≤ 256 }
-    requires places { length s.now ≡ length entries.now }
-    ensures places { IfOk result (λ t. length t ≡ length s.now) }
-    ensures taken { IfOk result (λ t. t ≡ suited entries.now s.now (length entries.now)) }
-{
-    let mut kept = untaken(alloc, entries, entries.above())?;
-    take_each(alloc, &mut kept, s)
-}
-
-/// The places that are taken one after another where all may be.
-pub(crate) fn basis_of(alloc: Global, entries: &Entries) -> Result<Set, Memory>
-    requires { length entries.now ≤ 256 }
-    ensures { IfOk result (λ t. t ≡ transversal_basis entries.now) }
-{
-    let all = Set::whole(alloc, entries.len())?;
-    matched(alloc, entries, &all)
 }

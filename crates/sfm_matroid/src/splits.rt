@@ -1,11 +1,9 @@
 // The split that is kept beside a base of a transversal term, for all searches at it. A base passes the test, so there is a split.
 // A room leaves a spare one near the exchange that may come, and an exchange brings that one up, or else the one that is kept.
-ghost use Rattle.std.specs.{Prelude.{◌≡◌, ◌↔◌, length, replicate, IfOk, IsTrue, OnOk}, List.{All}};
+ghost use Rattle.std.specs.{Prelude.{◌≡◌, ◌↔◌, length, IfOk, IsTrue, OnOk}, List.{All}};
 ghost use Rattle.sfm_assign.specs.Splits.{IsAmount, IsCapacity, CanBeMet};
-ghost use Rattle.sfm_matroid.specs.Notes.{AreBeside, AreSlotAmounts, CanMultiply, IsSlotSplit, IsSplitOrNone, demands_times};
+ghost use Rattle.sfm_matroid.specs.Notes.{AreBeside, CanMultiply, IsSplitOrNone, demands_times};
 
-use crate::entries::Entries;
-use crate::matching::slot_demand;
 use crate::pair::SplitPair;
 use sfm_assign::{AssignEnd, Demand, Kept};
 use sfm_base::Memory;
@@ -70,27 +68,6 @@ pub(crate) fn split_of(alloc: Global, demand: Demand) -> Result<Kept, Memory>
         Err(AssignEnd::Shortage { .. }) => unreachable!(),
         Err(AssignEnd::Memory) => Err(Memory),
     }
-}
-
-/// The split over the slots of entries, of which there are m.
-pub(crate) fn slot_split(
-    alloc: Global,
-    entries: &Entries,
-    m: usize,
-    x: &[i128],
-    most: i128,
-) -> Result<SlotSplit, Memory>
-    requires amounts { AreSlotAmounts entries.now m most x.now }
-    requires met { CanBeMet x.now entries.now (replicate m most) }
-    ensures { IfOk result (IsSlotSplit entries.now most x.now) }
-{
-    let capacities = vec![in alloc; most; m]?;
-    let demand = slot_demand(alloc, entries, m, x, most)?;
-    let kept = split_of(alloc, demand)?;
-    Ok(SlotSplit {
-        pair: SplitPair { kept, spare: None },
-        capacities,
-    })
 }
 
 /// Brings a split to other demands over the same lists, and to what slots hold then; false where these cannot be met.

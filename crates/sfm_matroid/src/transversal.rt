@@ -10,11 +10,11 @@ ghost use Rattle.sfm_spec.specs.{Bounds.{IsAtMost, IsFactor, IsGiven, AreElement
 ghost use Rattle.sfm_matroid.specs.{Slots.{transversal_rank, transversal_basis, transversal_value, transversal_size, transversal_start}, Notes.{transversal_fits}, TransversalLaws.{transversal-family, transversal-submodular, transversal-bounded, transversal-starts, transversal-starts_small, transversal-starts_times}};
 
 use crate::entries::Entries;
+use crate::frame::Frame;
 use crate::givers::row;
-use crate::matching::{basis_of, matched, slot_demand};
 use crate::ranked::{adds_up, cap_of, worth, write_start};
 use crate::room::{moved, pull_of};
-use crate::splits::{SlotSplit, bring_split, slot_split, try_split};
+use crate::splits::{SlotSplit, bring_split};
 use sfm_base::{Memory, Places, Set};
 use sfm_law::{At, Lead, Room, Swap, Term};
 use std::alloc::Global;
@@ -27,12 +27,15 @@ pub struct Transversal {
     pub entries: Entries,
     /// The elements that are taken one after another while their slots suffice.
     pub basis: Set,
+    /// What the splits of a base are made from.
+    pub frame: Frame,
     pub ghost elements: { AreElements places },
     pub ghost few: { length places ≤ 256 },
     pub ghost low: { pos 0 ≤ℤ w },
     pub ghost given: { IsGiven w },
     pub ghost same_count: { length entries ≡ length places },
     pub ghost based: { basis ≡ transversal_basis entries },
+    pub ghost framed: { frame ≡ entries },
 }
 
 // Written out, so that letting one go is one step, which is proved here once.
@@ -43,6 +46,7 @@ impl Drop for Transversal {
             w: _,
             entries: _,
             basis: _,
+            frame: _,
         } = self;
     }
 }
@@ -69,12 +73,14 @@ impl Transversal {
         ensures entries { IfOk result (λ r. r.entries ≡ entries) }
     {
         let places = Places::from_slice(alloc, elements)?;
-        let basis = basis_of(alloc, &entries)?;
+        let frame = Frame::of(alloc, &entries)?;
+        let basis = frame.basis(alloc)?;
         Ok(Transversal {
             places,
             w,
             entries,
             basis,
+            frame,
         })
     }
 
@@ -89,11 +95,13 @@ impl Transversal {
         let places = Places::from_slice(alloc, self.places.as_slice())?;
         let entries = self.entries.copy(alloc)?;
         let basis = self.basis.copy(alloc)?;
+        let frame = self.frame.share()?;
         Ok(Transversal {
             places,
             w: self.w,
             entries,
             basis,
+            frame,
         })
     }
 
@@ -108,7 +116,7 @@ impl Transversal {
         ensures greatest { IfOk result (λ r. (n : ℕ) × (r ≡ pos n)
             × IsRank (IsMatchable self.now.entries) s.now n) }
     {
-        let taken = matched(alloc, &self.entries, s)?;
+        let taken = self.frame.matched(alloc, s)?;
         Ok(taken.size() as i128)
     }
 
@@ -176,7 +184,7 @@ impl Term for Transversal {
 
     /// The value of a part: w times its rank.
     fn value(&self, alloc: Global, s: &Set) -> Result<Option<i128>, Memory> {
-        let taken = matched(alloc, &self.entries, s)?;
+        let taken = self.frame.matched(alloc, s)?;
         Ok(Some(worth(self.w, &taken)))
     }
 
@@ -194,13 +202,11 @@ impl Term for Transversal {
     }
 
     fn is_base(&self, alloc: Global, q: i128, x: &[i128]) -> Result<bool, Memory> {
-        let m = self.entries.above();
         if !adds_up(x, q, self.w, &self.basis) {
             return Ok(false);
         }
-        let demand = slot_demand(alloc, &self.entries, m, x, cap_of(q, self.w))?;
-        let split = try_split(alloc, demand)?;
-        Ok(split.is_some())
+        let told = self.frame.can_meet(alloc, x, cap_of(q, self.w))?;
+        Ok(told)
     }
 
     /// The room of (u, v) at a base, by a note that is made for it.
@@ -220,8 +226,7 @@ impl Term for Transversal {
     /// The split in the test that tells a base.
     fn note(&self, alloc: Global, at: &At<'_>) -> Result<SlotSplit, Memory> {
         let cap = cap_of(at.q, self.w);
-        let m = self.entries.above();
-        slot_split(alloc, &self.entries, m, at.x, cap)
+        self.frame.split(alloc, at.x, cap)
     }
 
     /// Writes the places other than the first of a lead to which that has room at a base, by the split that is kept beside it.

@@ -3,6 +3,7 @@ use Rattle.std.proofs.lemmas.Int.{to_z-of_z}
 use mir.Syntax.{w128}
 use Rattle.sfm_law.proofs.Fits.{given_fits}
 use Rattle.sfm_base.proofs.Elements.{placed_few}
+use Rattle.sfm_matroid.specs.Slots.{transversal_basis}
 use Rattle.sfm_matroid.proofs.Passed.{given_passed, low_passed}
 use Rattle.sfm_matroid.proofs.transversal.Transversal.new.Goals as goal
 
@@ -13,10 +14,13 @@ pub invariant_of-result-clause-same_count : goal.invariant_of-result-clause-same
 invariant_of-result-clause-same_count c = c.requires.same_count ∙ ap length (sym c.in_ok-places.ensures)
 
 pub invariant_of-result-clause-based : goal.invariant_of-result-clause-based
-invariant_of-result-clause-based c = c.in_ok-basis.ensures
+invariant_of-result-clause-based c = c.in_ok-basis.ensures ∙ ap transversal_basis c.in_ok-frame.ensures
 
-pub basis_of-requires : goal.basis_of-requires
-basis_of-requires c = let h = placed_few 256 c.args.elements.now c.requires.elements.placed in omega (arith, h, c.requires.same_count)
+pub invariant_of-result-clause-framed : goal.invariant_of-result-clause-framed
+invariant_of-result-clause-framed c = c.in_ok-frame.ensures
+
+pub of-requires : goal.of-requires
+of-requires c = let h = placed_few 256 c.args.elements.now c.requires.elements.placed in omega (arith, h, c.requires.same_count)
 
 pub invariant_of-result-clause-elements : goal.invariant_of-result-clause-elements
 invariant_of-result-clause-elements c = rw c.in_ok-places.ensures c.requires.elements
