@@ -14,6 +14,7 @@ mod Noted
 mod SlotNotes
 mod Fits
 mod Frames
+mod Freed
 mod AnyRank
 mod Passed
 mod Kept

@@ -42,7 +42,7 @@ module _ (edges : List Edge) (m : ℕ) (below : EndsBelow edges m) where
   end_touched e r le end s has = let t = touches-ends edges s e le has in ⊎_elim (λ same. rw same t.0) (λ same. rw same t.1) end
 
   -- a part that has r has no fewer ends but another
-  ends-least : (r : ℕ) → r < m → (t : ℕ) (s : List Bool) → touches edges s r ≡ true → ends_but edges m r s ≤ ends_but edges m t s
+  pub ends-least : (r : ℕ) → r < m → (t : ℕ) (s : List Bool) → touches edges s r ≡ true → ends_but edges m r s ≤ ends_but edges m t s
   ends-least r lr t s touched = count-into m m (λ v. touches edges s v && not (nat_eq v r)) (λ v. touches edges s v && not (nat_eq v t)) (λ v. if nat_eq v t then r else v) (λ w. if nat_eq w r then t else w) (λ v lt p. into v lt p (cases_eq v t)) where
     Into : ℕ → ℕ → Type 0
     Into v f = (f < m) × ((touches edges s f && not (nat_eq f t)) ≡ true) × ((if nat_eq f r then t else f) ≡ v)

@@ -71,7 +71,7 @@ pub length-ends : (edges : List Edge) → length (end_lists edges) ≡ length ed
 length-ends [] = refl
 length-ends (edge ∷ edges) = let r : length (end_lists edges) ≡ length edges = length-ends edges in omega (arith, r)
 
-touches-listed : (edges : List Edge) (s : List Bool) (v : ℕ) → listed (end_lists edges) s v ≡ touches edges s v
+pub touches-listed : (edges : List Edge) (s : List Bool) (v : ℕ) → listed (end_lists edges) s v ≡ touches edges s v
 touches-listed [] s v = refl
 touches-listed (edge ∷ edges) [] v = refl
 touches-listed (edge ∷ edges) (b ∷ s) v = rw (touches-listed edges s v, plain (nat_eq edge.head v)) refl where
@@ -92,24 +92,25 @@ module _ (edges : List Edge) (m : ℕ) (below : EndsBelow edges m) (c : ℤ) (x 
   vertices : length (vertex_capacities m c a) ≡ m
   vertices = length-set (replicate m c) a (pos 0) ∙ length-replicate m c
 
-  held : (s : List Bool) → sum_over (slots_of (length (vertex_capacities m c a)) (end_lists edges) s) (vertex_capacities m c a) ≡ (c *ℤ pos (ends_but edges m a s))
-  held s =
+  -- what the ends of a part hold
+  pub ends-sum : (s : List Bool) → sum_over (slots_of m (end_lists edges) s) (vertex_capacities m c a) ≡ (c *ℤ pos (ends_but edges m a s))
+  ends-sum s =
       let e = count-same m (λ v. listed (end_lists edges) s v && not (nat_eq v a)) (λ v. touches edges s v && not (nat_eq v a)) (λ v lv. ap (λ b. b && not (nat_eq v a)) (touches-listed edges s v)) in
-      rw vertices (but-sum m (end_lists edges) s c a lt ∙ ap (λ i. c *ℤ pos i) e)
+      but-sum m (end_lists edges) s c a lt ∙ ap (λ i. c *ℤ pos i) e
 
   -- what is split passes the test
   pub split_within_ends : CanBeMet x (end_lists edges) (vertex_capacities m c a) → IsWithinEnds edges m c x a
   split_within_ends can s ks =
       let exist : AreBelow (length (vertex_capacities m c a)) (end_lists edges) = rw vertices (ends_exist edges m below) in
-      let h = hall_easy x (end_lists edges) (vertex_capacities m c a) s (length-ends edges ∙ sym sized) exist (ks ∙ sym sized) can in
-      let e = held s in
+      let h = rw vertices at (hall_easy x (end_lists edges) (vertex_capacities m c a) s (length-ends edges ∙ sym sized) exist (ks ∙ sym sized) can) in
+      let e = ends-sum s in
       omega (arith, ints, h, e)
 
   -- what passes it is split
   pub within_ends_split : pos 0 ≤ℤ c → AreCounts x → IsWithinEnds edges m c x a → CanBeMet x (end_lists edges) (vertex_capacities m c a)
   within_ends_split low counts within =
       let exist : AreBelow (length (vertex_capacities m c a)) (end_lists edges) = rw vertices (ends_exist edges m below) in
-      hall x (end_lists edges) (vertex_capacities m c a) (length-ends edges ∙ sym sized) exist counts caps (λ s ks. let h = within s (ks ∙ sized) in let e = held s in omega (arith, ints, h, e)) where
+      hall x (end_lists edges) (vertex_capacities m c a) (length-ends edges ∙ sym sized) exist counts caps (λ s ks. rw vertices (let h = within s (ks ∙ sized) in let e = ends-sum s in omega (arith, ints, h, e))) where
         caps : (s : ℕ) → s < length (vertex_capacities m c a) → pos 0 ≤ℤ get_or (vertex_capacities m c a) s (pos 0)
         caps s ls =
             let v = vertices in

@@ -1,5 +1,5 @@
 -- What is kept beside a base: a split of it in a test.
-use Rattle.std.specs.Prelude.{◌≡◌, ℕ, ◌<◌, ◌≤◌, ◌^◌, List, length, map, replicate, ℤ, pos, ◌*ℤ◌, ◌≤ℤ◌, Option, Some, None}
+use Rattle.std.specs.Prelude.{◌≡◌, ◌⊎◌, ℕ, ◌<◌, ◌≤◌, ◌^◌, List, length, map, replicate, slice_index_or, ℤ, pos, ◌*ℤ◌, ◌≤ℤ◌, Option, Some, None}
 use Rattle.std.specs.List.{All}
 use Rattle.sfm_spec.specs.Bounds.{IsFactor}
 use Rattle.sfm_spec.specs.Kinds.{Edge}
@@ -7,6 +7,7 @@ use Rattle.sfm_spec.specs.Terms.{IsBase, times}
 use Rattle.sfm_assign.specs.Splits.{CanBeMet, Demands, IsAmount, IsCapacity}
 use Rattle.sfm_assign.specs.declared.kept.Kept.{Kept}
 use Rattle.sfm_matroid.specs.Amounts.{IsBeside}
+use Rattle.sfm_matroid.specs.Cuts.{IsWithinEnds}
 use Rattle.sfm_matroid.specs.Graphs.{graphic_value}
 use Rattle.sfm_matroid.specs.Numbered.{end_lists, numbered, vertex_capacities, vertex_count}
 use Rattle.sfm_matroid.specs.declared.pair.SplitPair.{SplitPair}
@@ -51,6 +52,13 @@ pub record IsOverEnds (edges : List Edge) (m : ℕ) (d : Demands) : Type 0 where
   pub places : length d.demands ≡ length edges
   pub lists : d.lists ≡ end_lists edges
   pub vertices : length d.capacities ≡ m
+
+-- what m vertices hold where some edges get no more than c for each of their ends but one: c, or more at such a one
+pub record AreFreed (edges : List Edge) (m : ℕ) (c : ℤ) (x held : List ℤ) : Type 0 where
+  pub places : length held ≡ m
+  pub bounded : All IsCapacity held
+  pub least : (v : ℕ) → v < m → c ≤ℤ slice_index_or held v (pos 0)
+  pub freed : (v : ℕ) → v < m → (slice_index_or held v (pos 0) ≡ c) ⊎ IsWithinEnds edges m c x v
 
 -- the split of demands, or none where they cannot be met
 abbrev pub IsSplitOrNone : Demands → Option Kept → Type 0

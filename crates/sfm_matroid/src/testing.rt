@@ -1,16 +1,28 @@
 // The tests that tell a base of a graphic term. For each vertex, each edge is a demand that is split over its two ends, which
 // hold the same number at most, and that vertex nothing. The tests of the tails are enough: a part of the edges has the tail of
 // each of its edges, so the test of that tail asks no less of it than any other. One split is made from nothing, and brought
-// from each tail to the next.
+// from each tail to the next. A part with a tail that was passed asks no more in the tests that come, so that tail may hold as
+// much as may be in these: the farther the tests are, the less has to be moved.
 ghost use Rattle.std.specs.{Prelude.{◌≡◌, ◌↔◌, ◌<◌, ◌≤◌, [], length, IfOk, IsTrue, OnOk}, List.{All}};
 ghost use Rattle.sfm_assign.specs.Splits.{IsAmount, CanBeMet};
-ghost use Rattle.sfm_matroid.specs.{Ends.{edges_of}, Amounts.{AreEndAmounts}, Cuts.{IsWithinEnds}, Graphs.{EndsBelow}, Notes.{end_demands, IsOverEnds}, Numbered.{IsTail, PassesTails, end_lists, vertex_capacities}};
+ghost use Rattle.sfm_matroid.specs.{Ends.{edges_of}, Amounts.{AreEndAmounts}, Cuts.{IsWithinEnds}, Graphs.{EndsBelow}, Notes.{end_demands, AreFreed, IsOverEnds}, Numbered.{IsTail, PassesTails, end_lists, vertex_capacities}};
 
 use crate::graph::Graph;
 use crate::splits::{can_bring, try_split};
 use sfm_assign::{Demand, Kept};
 use sfm_base::Memory;
 use std::alloc::Global;
+
+/// The most that a vertex may hold.
+const MOST_HELD: i128 = 1_000_000_000_000_000_000_000_000;
+
+/// What is tested: entries for the edges of a graph, and a number that vertices hold.
+#[derive(Clone, Copy)]
+struct Trial<'a> {
+    graph: &'a Graph,
+    x: &'a [i128],
+    most: i128,
+}
 
 /// What each of m vertices may hold: a number, and the vertex a nothing.
 pub(crate) fn capacities(alloc: Global, m: usize, most: i128, a: usize) -> Result<Vec<i128>, Memory>
@@ -96,46 +108,53 @@ fn is_tail(ends: &[(usize, usize)], a: usize) -> bool
 }
 
 /// Whether no edges get more than a number for each of their ends but a, if that is a tail: told by a split over the ends,
-/// which is brought there.
+/// which is brought to where a holds nothing. If so, a holds as much as may be from then on.
 fn passes_tail(
     alloc: Global,
-    graph: &Graph,
+    trial: &Trial,
     kept: &mut Kept,
-    x: &[i128],
-    most: i128,
+    held: &mut [i128],
     a: usize,
 ) -> Result<bool, Memory>
-    requires amounts { AreEndAmounts (edges_of graph.now.ends) most x.now }
-    requires vertex { a < graph.now.vertices }
-    requires over { IsOverEnds (edges_of graph.now.ends) graph.now.vertices kept.old.demand }
-    ensures told { IfOk result (λ r. IsTrue r ↔ (IsTail (edges_of graph.now.ends) a
-        → IsWithinEnds (edges_of graph.now.ends) graph.now.vertices most x.now a)) }
-    ensures over { IfOk result (λ r. IsTrue r → IsOverEnds
-        (edges_of graph.now.ends) graph.now.vertices kept.new.demand) }
+    requires amounts { AreEndAmounts (edges_of trial.now.graph.now.ends) trial.now.most
+        trial.now.x.now }
+    requires vertex { a < trial.now.graph.now.vertices }
+    requires over { IsOverEnds (edges_of trial.now.graph.now.ends) trial.now.graph.now.vertices
+        kept.old.demand }
+    requires held { AreFreed (edges_of trial.now.graph.now.ends) trial.now.graph.now.vertices
+        trial.now.most trial.now.x.now held.old }
+    ensures told { IfOk result (λ r. IsTrue r ↔ (IsTail (edges_of trial.now.graph.now.ends) a
+        → IsWithinEnds (edges_of trial.now.graph.now.ends) trial.now.graph.now.vertices
+        trial.now.most trial.now.x.now a)) }
+    ensures over { IfOk result (λ r. IsTrue r → IsOverEnds (edges_of trial.now.graph.now.ends)
+        trial.now.graph.now.vertices kept.new.demand) }
+    ensures held { IfOk result (λ r. IsTrue r → AreFreed (edges_of trial.now.graph.now.ends)
+        trial.now.graph.now.vertices trial.now.most trial.now.x.now held.new) }
 {
-    if !is_tail(graph.ends.as_slice(), a) {
+    if !is_tail(trial.graph.ends.as_slice(), a) {
         return Ok(true);
     }
-    let passed = brought(alloc, graph, kept, x, most, a)?;
-    Ok(passed)
+    held[a] = 0;
+    if !can_bring(alloc, kept, trial.x, held)? {
+        return Ok(false);
+    }
+    held[a] = MOST_HELD;
+    Ok(true)
 }
 
 /// Whether no edges get more than a number for each of their ends but one, whichever tail that is: told by a split over the
 /// ends, which is brought from each to the next.
-fn passes_each(
-    alloc: Global,
-    graph: &Graph,
-    kept: &mut Kept,
-    x: &[i128],
-    most: i128,
-) -> Result<bool, Memory>
-    requires amounts { AreEndAmounts (edges_of graph.now.ends) most x.now }
-    requires over { IsOverEnds (edges_of graph.now.ends) graph.now.vertices kept.old.demand }
-    ensures { IfOk result (λ r. IsTrue r ↔ PassesTails
-        (edges_of graph.now.ends) graph.now.vertices most x.now) }
+fn passes_each(alloc: Global, trial: &Trial, kept: &mut Kept) -> Result<bool, Memory>
+    requires amounts { AreEndAmounts (edges_of trial.now.graph.now.ends) trial.now.most
+        trial.now.x.now }
+    requires over { IsOverEnds (edges_of trial.now.graph.now.ends) trial.now.graph.now.vertices
+        kept.old.demand }
+    ensures { IfOk result (λ r. IsTrue r ↔ PassesTails (edges_of trial.now.graph.now.ends)
+        trial.now.graph.now.vertices trial.now.most trial.now.x.now) }
 {
-    for a in 0..graph.vertices {
-        if !passes_tail(alloc, graph, kept, x, most, a)? {
+    let mut held = vec![in alloc; trial.most; trial.graph.vertices]?;
+    for a in 0..trial.graph.vertices {
+        if !passes_tail(alloc, trial, kept, &mut held, a)? {
             return Ok(false);
         }
     }
@@ -166,5 +185,6 @@ pub(crate) fn passes_tails(
     let Some(mut kept) = try_split(alloc, demand)? else {
         return Ok(false);
     };
-    passes_each(alloc, graph, &mut kept, x, most)
+    let trial = Trial { graph, x, most };
+    passes_each(alloc, &trial, &mut kept)
 }
