@@ -69,6 +69,13 @@ inside_by_words s o e same hs =
     let below = bit_at-lt v (e % 64) in
     bit_in-words o e ∙ omega (arith, both, all, a, below)
 
+-- where the other set has each place, each bit is at most its own
+pub bits_by_places : (s o : Bits) → ((e : ℕ) → bit_in s e ≡ 1 → bit_in o e ≡ 1) → (e : ℕ) → bit_of s.words e ≤ bit_of o.words e
+bits_by_places s o h e = rw (← bit_in-words s e, ← bit_in-words o e) (⊎_elim
+    (λ one. omega (arith, one, h e one))
+    (λ none. omega (arith, none, bit_in-lt s e))
+    (cases_eq (bit_in s e) 1))
+
 -- past the words there is no place
 pub within_words : (s : Bits) (e : ℕ) → length s.words ≤ e / 64 → bit_in s e ≡ 0
 within_words s e past = bit_in-words s e ∙ (ap (λ w. bit_at w (e % 64)) (get_or_past s.words (e / 64) 0 past) ∙ bit_at-zero (e % 64))

@@ -163,7 +163,7 @@ impl Bits {
 
     /// Whether another set has each place of this one.
     pub fn is_within(&self, other: &Bits) -> bool
-        ensures { result ≡ true → (e : ℕ) → bit_in self.now e ≡ 1 → bit_in other.now e ≡ 1 }
+        ensures { IsTrue result ↔ ((e : ℕ) → bit_in self.now e ≡ 1 → bit_in other.now e ≡ 1) }
     {
         let words = self.words;
         let others = other.words;

@@ -55,7 +55,7 @@ returns-then-is_within-clause-raised g c =
     let taken = rw (shown, hs.same) at c.take_in_raised.ensures.taken in
     let made = rw shown at c.settle_raised-changes.ensures in
     let grown = changes_grown r _ hs.row c.settle_raised-changes.result _ _ taken.joined made.anew made.grown in
-    let had = rw c.row-before.ensures at (c.is_within.ensures c.if-is_within.true) in
+    let had = rw c.row-before.ensures at (c.if-is_within.ensures.0 refl) in
     rw taken.put (record {
       claims = exchange_still r _ hs.row _ taken.joined (rw shown at (c.if-contains.ensures.0 refl)) _ made.claimed;
       changes = changes_all r _ hs.row c.settle_raised-changes.result _ _ taken.joined made.anew c.all_grown.result c.all_grown.ensures.grown c.all_grown.ensures.anew had grown;

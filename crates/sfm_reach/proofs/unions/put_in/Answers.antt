@@ -11,7 +11,7 @@ returns-then-is_within-clause-put c =
     let unions = c.args.unions.now.items in
     let here = c.args.place in
     let read : set_at unions here ≡ c.index.result.now = get_or_default unions here blank_bits c.index.result.now c.requires.inside ∙ sym c.index.ensures in
-    let has = rw (← read) at (c.is_within.ensures c.if-is_within.true) in (
+    let has = rw (← read) at (c.if-is_within.ensures.0 refl) in (
       set_at unions here,
       sym (set-get_or unions here blank_bits),
       λ t. ⊎_elim
