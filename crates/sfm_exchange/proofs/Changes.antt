@@ -1,5 +1,5 @@
 -- Which rows of a term an exchange has changed, and how.
-use Rattle.std.proofs.Common.{◌≡◌, ◌≢◌, ◌↔◌, ◌⊎◌, inl, inr, refl, ⊎_elim, ℕ, ◌<◌, max, List, length, get_or, set, ℤ, sym, ◌∙◌, arith, get_or-set_other, get_or-set_same}
+use Rattle.std.proofs.Common.{◌≡◌, ◌≢◌, ◌↔◌, ◌⊎◌, inl, inr, refl, ⊎_elim, ℕ, ◌<◌, max, List, length, get_or, set, ℤ, sym, ◌∙◌, arith, get_or-set_other}
 use Rattle.std.proofs.lemmas.Bool.{cases_eq}
 use Rattle.sfm_spec.specs.Terms.{SetFunction}
 use Rattle.sfm_reach.specs.declared.bits.Bits.{Bits}
@@ -7,7 +7,7 @@ use Rattle.sfm_exchange.specs.declared.renewing.Changes.{Changes}
 use Rattle.sfm_reach.specs.Bits.{bit_in, blank_bits, set_at}
 use Rattle.sfm_reach.specs.Reach.{IsRow}
 use Rattle.sfm_reach.proofs.Words.{bit_in-lt}
-use Rattle.sfm_exchange.specs.Renewed.{AreAsked, AreChanges, AreJoined}
+use Rattle.sfm_exchange.specs.Renewed.{AreAsked, AreChanges, AreJoined, AreRenewed}
 use Rattle.sfm_exchange.proofs.AtOnce.{others_kept, told_found}
 use Rattle.sfm_exchange.proofs.Claiming.{IsRenewing, found_inside, others_stay}
 
@@ -44,18 +44,18 @@ module _ {places : List ℕ} {f : SetFunction} {s t : ℕ} {x y : List ℤ} {cla
   }
 
   -- where the row of s has all that it had, it has grown as the others have
-  pub changes_all : (more : Bits) (mid : List Bits) → AreJoined places found more (get_or places s 0) (length places) rows mid
-      → ((e : ℕ) → (bit_in changes.anew e ≡ 1) ↔ (e ≡ get_or places s 0)) → (all : Changes) → ((e : ℕ) → bit_in all.grown e ≡ max (bit_in changes.grown e) (bit_in changes.anew e)) → ((e : ℕ) → bit_in all.anew e ≡ 0)
-      → ((e : ℕ) → bit_in (set_at rows s) e ≡ 1 → bit_in of_s e ≡ 1) → AreChanges places changes rows (set mid s of_s) → AreChanges places all rows (set mid s of_s)
-  changes_all more mid joined anew all grown none has c = record {
-    inside = λ e. ⊎_elim (λ one. c.inside e (either e one)) (λ one. absurd (let z = none e in omega (arith, z, one)));
+  pub changes_all : ((e : ℕ) → (bit_in changes.anew e ≡ 1) ↔ (e ≡ get_or places s 0)) → (all : Changes) → ((e : ℕ) → bit_in all.grown e ≡ max (bit_in changes.grown e) (bit_in changes.anew e)) → ((e : ℕ) → bit_in all.anew e ≡ 0)
+      → ((e : ℕ) → bit_in (set_at rows s) e ≡ 1 → bit_in of_s e ≡ 1) → {claimed' : Bits} {after : List Bits} → AreRenewed places f y claimed' changes rows after → AreChanges places all rows after
+  changes_all anew all grown none has {claimed'} {after} h = record {
+    inside = λ e. ⊎_elim (λ one. h.changes.inside e (either e one)) (λ one. absurd (let z = none e in omega (arith, z, one)));
     grown = λ u t lu one bit. ⊎_elim
-        (λ is. c.grown u t lu is bit)
+        (λ is. h.changes.grown u t lu is bit)
         (λ is.
-        let same : u ≡ s = distinct u lu ((anew (get_or places u 0)).0 is) in
-        rw (same, get_or-set_same mid s of_s blank_bits in_mid) (has t (rw same at bit)))
+        let same : u ≡ s = r.raising.distinct u s lu r.raising.raised ((anew (get_or places u 0)).0 is) in
+        let (v, lv, ne, room, at) = (hs t).0 (has t (rw same at bit)) in
+        rw (same, ← at) ((h.claims.claims s r.raising.raised).has v lv ne room))
         (either (get_or places u 0) one);
-    others = λ u lu out not. c.others u lu
+    others = λ u lu out not. h.changes.others u lu
         (λ one. out (let g = grown (get_or places u 0) in let m = bit_in-lt changes.anew (get_or places u 0) in omega (arith, g, m, one)))
         (λ one. out (let g = grown (get_or places u 0) in let m = bit_in-lt changes.grown (get_or places u 0) in omega (arith, g, m, one)));
   } where
@@ -64,9 +64,3 @@ module _ {places : List ℕ} {f : SetFunction} {s t : ℕ} {x y : List ℤ} {cla
         (λ is. inl is)
         (λ not. inr (let g = grown e in let m = bit_in-lt changes.grown e in let l = bit_in-lt changes.anew e in omega (arith, g, m, l, one, not)))
         (cases_eq (bit_in changes.grown e) 1)
-
-    distinct : (u : ℕ) → u < length places → get_or places u 0 ≡ get_or places s 0 → u ≡ s
-    distinct u lu same = r.raising.distinct u s lu r.raising.raised same
-
-    in_mid : s < length mid
-    in_mid = let l = joined.count in let k = r.count in let h = r.raising.raised in omega (arith, l, k, h)

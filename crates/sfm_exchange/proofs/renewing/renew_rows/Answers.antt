@@ -3,13 +3,14 @@ use Rattle.std.proofs.lemmas.Int.{ints}
 use Rattle.sfm_spec.specs.Terms.{times}
 use Rattle.sfm_spec.proofs.Scaled.{family-times, submodular-times}
 use Rattle.sfm_reach.specs.Bits.{bit_in}
+use Rattle.sfm_exchange.specs.Renewed.{AreRenewed}
 use Rattle.sfm_exchange.proofs.AtOnce.{exchange_asked, lead_to_s, of_others}
 use Rattle.sfm_exchange.proofs.Changes.{changes_all, changes_anew, changes_grown}
 use Rattle.sfm_exchange.proofs.Claiming.{IsRenewing, exchange_more, exchange_still, neither}
 use Rattle.sfm_exchange.proofs.Sharing.{changes_shared, claims_shared, shared_inside, shared_lead}
 use Rattle.sfm_exchange.proofs.renewing.renew_rows.Given as given
 use Rattle.sfm_exchange.proofs.renewing.renew_rows.Goals as goal
-use Rattle.sfm_exchange.proofs.renewing.renew_rows.Goals.{After-depending-changed}
+use Rattle.sfm_exchange.proofs.renewing.renew_rows.Goals.{After-depending-changed, After-settle_raised-changes}
 
 -- the exchange, and the places that depended on the last place of the step
 renewing : (g : given.Over) (c : After-depending-changed g) → let at = c.args.at.now in IsRenewing (g.T.Term.places at.term.now) (times at.base.q (g.T.Term.value_of at.term.now)) c.args.hop.u c.args.hop.v c.requires.before.before at.base.x.now
@@ -35,9 +36,10 @@ renewing g c =
       all = rw (c.elements-places.ensures, c.as_slice.ensures) at c.depending-changed.ensures;
     }
 
-pub returns-then-contains-clause-raised : goal.returns-then-contains-clause-raised
-returns-then-contains-clause-raised g c =
-    let r = renewing g (goal.at.returns-then-contains-clause-raised g c).After-depending-changed in
+-- where the row of s has t still: what the rows are that took it in
+taken_in : (g : given.Over) (c : After-settle_raised-changes g) → let at = c.args.at.now in let places = g.T.Term.places at.term.now in let f = times at.base.q (g.T.Term.value_of at.term.now) in let rows = c.args.rows.now in
+    IsRenewing places f c.args.hop.u c.args.hop.v c.requires.before.before at.base.x.now c.args.claimed.now c.depending-changed.result rows → AreRenewed places f at.base.x.now c.settle_raised-changes.new.claimed c.settle_raised-changes.result rows c.take_in_raised.new.rows
+taken_in g c r =
     let shown = c.elements-places.ensures in
     let hs = c.in_ok-of_s.ensures in
     let taken = rw (shown, hs.same) at c.take_in_raised.ensures.taken in
@@ -47,19 +49,20 @@ returns-then-contains-clause-raised g c =
       changes = changes_grown r _ hs.row c.settle_raised-changes.result _ _ taken.joined made.anew made.grown;
     })
 
+pub returns-then-contains-clause-raised : goal.returns-then-contains-clause-raised
+returns-then-contains-clause-raised g c =
+    let q = goal.at.returns-then-contains-clause-raised g c in
+    taken_in g q.After-settle_raised-changes (renewing g q.After-depending-changed)
+
 pub returns-then-is_within-clause-raised : goal.returns-then-is_within-clause-raised
 returns-then-is_within-clause-raised g c =
-    let r = renewing g (goal.at.returns-then-is_within-clause-raised g c).After-depending-changed in
-    let shown = c.elements-places.ensures in
-    let hs = c.in_ok-of_s.ensures in
-    let taken = rw (shown, hs.same) at c.take_in_raised.ensures.taken in
-    let made = rw shown at c.settle_raised-changes.ensures in
-    let grown = changes_grown r _ hs.row c.settle_raised-changes.result _ _ taken.joined made.anew made.grown in
+    let q = goal.at.returns-then-is_within-clause-raised g c in
+    let r = renewing g q.After-depending-changed in
+    let anew = rw c.elements-places.ensures at c.settle_raised-changes.ensures.anew in
     let had = rw c.row-before.ensures at (c.if-is_within.ensures.0 refl) in
-    rw taken.put (record {
-      claims = exchange_still r _ hs.row _ taken.joined (rw shown at (c.if-contains.ensures.0 refl)) _ made.claimed;
-      changes = changes_all r _ hs.row c.settle_raised-changes.result _ _ taken.joined made.anew c.all_grown.result c.all_grown.ensures.grown c.all_grown.ensures.anew had grown;
-    })
+    let all = c.all_grown.ensures in
+    let taken = taken_in g q.After-settle_raised-changes r in
+    record { claims = taken.claims; changes = changes_all r _ c.in_ok-of_s.ensures.row c.settle_raised-changes.result anew c.all_grown.result all.grown all.anew had taken }
 
 pub ask_rows-requires-clause-leads : goal.ask_rows-requires-clause-leads
 ask_rows-requires-clause-leads g c = λ u l one.
