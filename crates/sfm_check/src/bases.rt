@@ -1,6 +1,7 @@
-// Whether the rows of an answer are bases of their terms: each row is tested by its term, section by section. Most rows are those of
-// the section before but for the factor. Where that row is a base, so is such a one: all that bounds it is in the same ratio. So
-// the term is not asked for it.
+// Whether the rows of an answer are bases of their terms: each row is tested by its term, section by section. Many rows are those of
+// the section before but for the factor, though few of those of graphs are. Where that row is a base, so is such a one: all that
+// bounds it is in the same ratio. So the term is not asked for it. A term with at most two places, as a cut, is asked all the same:
+// it answers about as soon as the rows are compared.
 ghost use Rattle.std.specs.{Prelude.{◌≡◌, ◌↔◌, ◌<◌, ◌≤◌, ◌^◌, ℕ, length, map, pos, ◌≤ℤ◌, IfOk, IfSome, IsTrue, MatchOption}, List.{All}};
 ghost use Rattle.sfm_spec.specs.{Bounds.{IsEntry, IsFactor}, Families.{meanings}, Terms.{times, IsBase}, Walks.{base_at}};
 ghost use Rattle.sfm_law.specs.Based.{IsBased};
@@ -33,8 +34,8 @@ fn are_in_ratio(at: &At<'_>, known: &At<'_>) -> bool
     true
 }
 
-/// Whether a vector is a base of q times a term, of which a base is known. One in the ratio of that is a base as well, so the term
-/// need not be asked.
+/// Whether a vector is a base of q times a term, of which a base is known. One in the ratio of that is a base as well, so a term with
+/// more than two places is not asked for it. One with at most two is always asked.
 fn is_base_beside(alloc: Global, term: &Kind, at: &At<'_>, known: &At<'_>) -> Result<bool, Memory>
     requires factor { IsFactor at.now.q }
     requires entries { length at.now.x.now ≡ length (kind_places term.now) }
