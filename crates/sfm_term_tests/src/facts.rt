@@ -1,5 +1,5 @@
-// Tables of terms: each row has the line of a term over the elements a to j, in this order, and lines that tell what the term is
-// to answer, each by a word and numbers:
+// Tables of terms: each row has the line of a term over the elements a to z and A to F, in this order, and lines that tell what
+// the term is to answer, each by a word and numbers:
 //
 //     places 0 1        the elements of its places
 //     size 4            its size
@@ -11,11 +11,12 @@
 //     base 5 -5         a base of q times the term, at which the lines below are asked
 //     room 0 1 3        the room of (0, 1); `no` is one without a bound
 //     reach 0 2         the number of the part to which 0 has room
+//     times 0 1         a note made of one there tells the row of 0 and the room of (0, 1) at three times the base
 //
 // A row costs no proof, since the functions that read and try it are proved for every table. They answer yes or no.
 use crate::numbers::numbers_of;
 use crate::trial::{
-    has_places, has_reach, has_room, has_size, has_values, is_no_base, part, starts,
+    has_places, has_reach, has_room, has_size, has_times, has_values, is_no_base, part, starts,
 };
 use crate::{concave, graphs, laminar, simple, slots};
 use sfm_base::Set;
@@ -54,7 +55,8 @@ struct Told {
 }
 
 /// What stands before the line of a term.
-const HEAD: &str = "sfm 1\nground a b c d e f g h i j\n";
+const HEAD: &str =
+    "sfm 1\nground a b c d e f g h i j k l m n o p q r s t u v w x y z A B C D E F\n";
 
 /// What stands behind it.
 const TAIL: &str = "\nend\n";
@@ -100,10 +102,11 @@ enum Word {
     Base,
     Room,
     Reach,
+    Times,
 }
 
 /// The words of lines.
-const WORDS: [(&str, Word); 10] = [
+const WORDS: [(&str, Word); 11] = [
     ("places", Word::Places),
     ("size", Word::Size),
     ("values", Word::Values),
@@ -114,6 +117,7 @@ const WORDS: [(&str, Word); 10] = [
     ("base", Word::Base),
     ("room", Word::Room),
     ("reach", Word::Reach),
+    ("times", Word::Times),
 ];
 
 /// The word with that text.
@@ -138,6 +142,7 @@ fn is_told_at(alloc: Global, kind: &Kind, at: &At<'_>, word: Word, numbers: &[i1
         Word::Base => is_base(alloc, kind, &beside),
         Word::Room => has_room(alloc, kind, at, numbers),
         Word::Reach => has_reach(alloc, kind, at, numbers),
+        Word::Times => has_times(alloc, kind, at, numbers),
         _ => true,
     }
 }

@@ -1,14 +1,13 @@
-// Ranks of graphic matroids, worked by hand: loops, edges side by side, a path, a triangle, and a square whose edges come in an
-// order that joins two labels; and terms whose vertices have numbers with gaps between them.
+// Ranks of graphic matroids, worked by hand: loops, edges side by side, a path, a triangle, a square whose edges come in an order
+// that joins two labels, and 32 edges, so many that a note is made of another; and terms whose vertices have numbers with gaps
+// between them.
 use crate::facts::{ONE_OF_TWO, has_facts};
-use crate::trial::multiplies;
 use sfm_kind::Kind;
-use sfm_law::At;
 use sfm_matroid::Graphic;
 use std::alloc::Global;
 
 /// Terms of these kinds, and what each answers.
-pub(crate) const TERMS: [(&str, &str); 4] = [
+pub(crate) const TERMS: [(&str, &str); 5] = [
     (
         "rank 5 graphic : e=u-v a=v-w c=w-u",
         "places 4 0 2
@@ -44,6 +43,13 @@ pub(crate) const TERMS: [(&str, &str); 4] = [
         reach 2 0",
     ),
     ("rank 3 graphic : a=u-v b=v-u", ONE_OF_TWO),
+    (
+        "rank 2 graphic : a=u-v b=v-w c=w-u d=u-v e=u-v f=u-v g=u-v h=u-v i=u-v j=u-v k=u-v l=u-v m=u-v \
+        n=u-v o=u-v p=u-v q=u-v r=u-v s=u-v t=u-v u=u-v v=u-v w=u-v x=u-v y=u-v z=u-v A=u-v B=u-v C=u-v D=u-v E=u-v F=u-v",
+        "factor 2
+        base 3 1 4 0 0 0 0 0 0 0 0 0 0 0 0 0 0 0 0 0 0 0 0 0 0 0 0 0 0 0 0 0
+        times 1 0",
+    ),
 ];
 
 /// What a term is worth for each of the rank, its edges by their ends, and what it answers: a loop, and two edges side by side; the
@@ -111,21 +117,4 @@ fn edges_by_their_ends(rt: HostRuntime) {
     for (w, ends, lines) in &EDGES {
         assert!(rt; has_edges(rt.alloc(), *w, ends, lines));
     }
-}
-
-/// Whether a note of a triangle at a base is one at three times the base too.
-fn triangle_multiplies(alloc: Global) -> bool {
-    let at = At {
-        q: 2,
-        x: &[3, 1, 4],
-    };
-    match graph_of(alloc, 2, &[(3, 9), (9, 5), (5, 3)]) {
-        Some(term) => multiplies(alloc, &term, &at, 1, 0),
-        None => false,
-    }
-}
-
-#[test]
-fn edges_three_times(rt: HostRuntime) {
-    assert!(rt; triangle_multiplies(rt.alloc()));
 }

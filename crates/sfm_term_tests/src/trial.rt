@@ -260,15 +260,11 @@ fn tells_thrice<T: Term>(alloc: Global, term: &T, at: &At<'_>, u: usize, v: usiz
     is_base(alloc, term, &next) && tells_next(alloc, term, at, &next, u, v)
 }
 
-/// Whether a vector is a base of q times a term, and a note that is made of one there tells at three times the base the row of u and
-/// the room of (u, v).
-pub(crate) fn multiplies<T: Term>(
-    alloc: Global,
-    term: &T,
-    at: &At<'_>,
-    u: usize,
-    v: usize,
-) -> bool {
+/// Whether a vector is a base of q times a term, and a note that is made of one there tells at three times the base the row of a
+/// place and the room of two.
+pub(crate) fn has_times<T: Term>(alloc: Global, term: &T, at: &At<'_>, numbers: &[i128]) -> bool {
+    let u = count_at(numbers, 0);
+    let v = count_at(numbers, 1);
     if u == v || u >= at.x.len() || v >= at.x.len() {
         return false;
     }
