@@ -1,5 +1,6 @@
 pub mod AnswerLines
 pub mod Tokens
+mod FirstBytes
 pub mod Needs
 pub mod Names
 pub mod LineForms

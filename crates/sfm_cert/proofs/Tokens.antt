@@ -1,11 +1,10 @@
 -- Where a name or a number ends: what stands in front of a separator is told by the bytes, and a number by its text.
-use Rattle.std.proofs.Common.{◌≡◌, ◌≢◌, ℕ, suc, ◌+◌, ◌-◌, ◌<◌, ◌≤◌, ◌^◌, ◌⊎◌, List, [], ◌∷◌, ◌++◌, length, get_or, take, drop, ℤ, pos, negsuc, nat_abs, inl, inr, refl, sym, ap, subst, ◌∙◌, arith}
+use Rattle.std.proofs.Common.{◌≡◌, ◌≢◌, ℕ, suc, ◌+◌, ◌-◌, ◌<◌, ◌≤◌, ◌^◌, ◌⊎◌, List, [], ◌∷◌, ◌++◌, length, get_or, take, drop, ℤ, pos, negsuc, nat_abs, inr, refl, sym, ap, subst, ◌∙◌, arith}
 use Rattle.std.specs.Prelude.{Option, Some, None, MatchOption}
 use Rattle.std.specs.List.{All}
 use Rattle.std.specs.Fmt.{decimal, signed_decimal}
 use Rattle.std.specs.Str.Parse.{AllDigits}
-use Rattle.std.proofs.lemmas.Bool.{cases_lt}
-use Rattle.std.proofs.lemmas.List.{append_assoc, take-append-drop, take_rest, drop_more, drop_all}
+use Rattle.std.proofs.lemmas.List.{append_assoc, take-append-drop, take_rest, drop_more}
 use Rattle.std.proofs.lemmas.List.Elements.{All-nil, All-cons, All-head, All-tail, All-weaker, All-append}
 use Rattle.std.proofs.lemmas.Int.{ints}
 use Rattle.std.proofs.lemmas.Str.Parse.{digit_from_value}
@@ -38,14 +37,6 @@ same_front k (c ∷ x) (d ∷ y) u v hx hy su sv e =
     let head : c ≡ d = cc in
     let (f, g) = same_front k x y u v (All-tail (λ c. c ≢ k) c x hx) (All-tail (λ c. c ≢ k) d y hy) su sv tail in
     (cc, g)
-
--- from its first separator on, a text is nothing or the separator and more
-pub stop_at : (k : ℕ) (x : List ℕ) (i : ℕ) → (i < length x → get_or x i 0 ≡ k) → IsStopAt k (take (length x - i) (drop i x))
-stop_at k x i h = at (cases_lt i (length x))
-  where
-    at : (i < length x) ⊎ (length x ≤ i) → IsStopAt k (take (length x - i) (drop i x))
-    at (inl lt) = inr (drop (i + 1) x, take_rest x i ∙ drop_more x i 0 lt ∙ ap (λ (c : ℕ). c ∷ drop (i + 1) x) (h lt))
-    at (inr ge) = inl (take_rest x i ∙ drop_all i x ge)
 
 -- a text is what stands before a place, the byte there, and what stands behind it
 pub cut_around : (k : ℕ) (x : List ℕ) (i : ℕ) → i < length x → get_or x i 0 ≡ k → x ≡ take i x ++ (k ∷ take (length x - (i + 1)) (drop (i + 1) x))

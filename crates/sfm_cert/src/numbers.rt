@@ -1,8 +1,9 @@
 // Numbers, lists of numbers and slopes, read from bytes.
-ghost use Rattle.std.specs.{Prelude.{◌≡◌, ◌≢◌, ◌⊎◌, ℕ, ◌<◌, ◌≤◌, List, [], ◌∷◌, ◌++◌, length, slice_index, take, ℤ, MatchOption, IfOk}, Fmt.{decimal, signed_decimal}, List.{All}};
+ghost use Rattle.std.specs.{Prelude.{◌≡◌, ◌≢◌, ◌⊎◌, ℕ, ◌<◌, ◌≤◌, List, [], ◌∷◌, ◌++◌, length, ℤ, MatchOption, IfOk}, Fmt.{decimal, signed_decimal}, List.{All}};
 ghost use Rattle.sfm_spec.specs.{Bounds.{IsEntry, IsFactor}, Slopes.{IsLowest}};
 ghost use Rattle.sfm_cert.specs.{Answer.{slope_text}, LineLists.{counted, numbered}, Lists.{IsStop, AreNeeds}};
 
+use memchr::memchr;
 use sfm_base::{Memory, Slope, read_number};
 use std::alloc::Global;
 
@@ -23,7 +24,7 @@ pub fn split_token(bytes: &[u8]) -> (&[u8], &[u8])
     ensures plain { All (λ c. c ≢ 32) result.0.now }
     ensures stop { IsStop result.1.now }
 {
-    let end = place_of(bytes, b' ');
+    let end = memchr(b' ', bytes).unwrap_or(bytes.len());
     (&bytes[..end], &bytes[end..])
 }
 
@@ -141,25 +142,8 @@ pub fn split_at_first(bytes: &[u8], value: u8) -> Option<(&[u8], &[u8])>
         (All (λ c. c ≢ value) bytes.now)
         (λ r. All (λ c. c ≢ value) r.0.now × (bytes.now ≡ r.0.now ++ (value ∷ r.1.now))) }
 {
-    let mid = place_of(bytes, value);
-    if mid >= bytes.len() {
-        return None;
-    }
+    let mid = memchr(value, bytes)?;
     Some((&bytes[..mid], &bytes[mid + 1..]))
-}
-
-/// The place of the first byte of that value, or the length where there is none.
-fn place_of(bytes: &[u8], value: u8) -> usize
-    ensures within { result ≤ length bytes.now }
-    ensures before { All (λ c. c ≢ value) (take result bytes.now) }
-    ensures there { result < length bytes.now → slice_index bytes.now result ≡ value }
-{
-    for i in 0..bytes.len() {
-        if bytes[i] == value {
-            return i;
-        }
-    }
-    bytes.len()
 }
 
 /// The slope p/q, where q is from 1 to 1,000,000 and p/q is in lowest terms.
