@@ -1,6 +1,7 @@
 pub mod AnswerLines
 pub mod Tokens
 mod FirstBytes
+mod ShortNumbers
 pub mod Needs
 pub mod Names
 pub mod LineForms

@@ -13,6 +13,7 @@ mod numbers;
 mod out;
 mod put;
 mod read;
+mod short;
 mod solved;
 mod spot;
 mod steps;

@@ -8,8 +8,9 @@ ghost use Rattle.sfm_cert.specs.{Answer.{listed}, Lists.{IsStop, IsListCut}, Lin
 
 use crate::head::Head;
 use crate::numbers::{
-    behind, needs_of, numbers_into, numbers_of, read_entry, slope_of, split_token,
+    behind, behind_space, needs_of, numbers_into, numbers_of, read_entry, slope_of, split_token,
 };
+use crate::short::is_stop;
 use crate::spot::Spot;
 use itoa::Buffer;
 use sfm_base::{Memory, Set};
@@ -23,18 +24,8 @@ fn behind_name<'a>(bytes: &'a [u8], name: &[u8]) -> Option<&'a [u8]>
         ((rest : List ℕ) → IsStop rest → bytes.now ≡ 32 ∷ (name.now ++ rest) → ⊥)
         (λ rest. IsStop rest.now × (bytes.now ≡ 32 ∷ (name.now ++ rest.now))) }
 {
-    let rest = behind(behind(bytes, b" ")?, name)?;
+    let rest = behind(behind_space(bytes)?, name)?;
     if is_stop(rest) { Some(rest) } else { None }
-}
-
-/// Whether nothing or a space follows.
-fn is_stop(rest: &[u8]) -> bool
-    ensures { IsTrue result ↔ IsStop rest.now }
-{
-    if rest.is_empty() {
-        return true;
-    }
-    rest[0] == b' '
 }
 
 /// The set whose names stand at the front, and the bytes behind it.

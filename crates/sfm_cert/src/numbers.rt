@@ -3,6 +3,7 @@ ghost use Rattle.std.specs.{Prelude.{◌≡◌, ◌≢◌, ◌⊎◌, ℕ, ◌<�
 ghost use Rattle.sfm_spec.specs.{Bounds.{IsEntry, IsFactor}, Slopes.{IsLowest}};
 ghost use Rattle.sfm_cert.specs.{Answer.{slope_text}, LineLists.{counted, numbered}, Lists.{IsStop, AreNeeds}};
 
+use crate::short::short_entry;
 use memchr::memchr;
 use sfm_base::{Memory, Slope, read_number};
 use std::alloc::Global;
@@ -37,6 +38,18 @@ pub fn behind<'a>(bytes: &'a [u8], word: &[u8]) -> Option<&'a [u8]>
     bytes.strip_prefix(word)
 }
 
+/// The bytes behind a space at the front.
+pub fn behind_space(bytes: &[u8]) -> Option<&[u8]>
+    ensures { MatchOption result
+        ((rest : List ℕ) → bytes.now ≡ 32 ∷ rest → ⊥)
+        (λ rest. bytes.now ≡ 32 ∷ rest.now) }
+{
+    match bytes {
+        [b' ', rest @ ..] => Some(rest),
+        _ => None,
+    }
+}
+
 /// The number behind the space at the front, and the bytes behind that number.
 fn split_entry(bytes: &[u8]) -> Option<(i128, &[u8])>
     ensures { MatchOption result
@@ -44,7 +57,11 @@ fn split_entry(bytes: &[u8]) -> Option<(i128, &[u8])>
         → bytes.now ≡ 32 ∷ (signed_decimal a ++ rest) → ⊥)
         (λ r. IsEntry r.0 × IsStop r.1.now × (bytes.now ≡ 32 ∷ (signed_decimal r.0 ++ r.1.now))) }
 {
-    let (token, rest) = split_token(behind(bytes, b" ")?);
+    let text = behind_space(bytes)?;
+    if let Some(cut) = short_entry(text) {
+        return Some(cut);
+    }
+    let (token, rest) = split_token(text);
     let a = read_entry(token)?;
     Some((a, rest))
 }

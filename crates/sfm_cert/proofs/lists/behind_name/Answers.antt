@@ -10,4 +10,4 @@ same_rest bytes token name rest other e f g = let h : 32 ∷ token ≡ 32 ∷ (n
 pub returns-else-is_stop : goal.returns-else-is_stop
 returns-else-is_stop c = λ other stop e.
     false≢true (sym c.if-is_stop.false ∙ c.is_stop.ensures.1
-    (subst (λ (x : List ℕ). IsStop x) (same_rest c.args.bytes.now c.in_ok-behind.field-0.now c.args.name.now c.in_ok-rest.rest.now other c.in_ok-behind.ensures c.in_ok-rest.ensures e) stop))
+    (subst (λ (x : List ℕ). IsStop x) (same_rest c.args.bytes.now c.in_ok-behind_space.field-0.now c.args.name.now c.in_ok-rest.rest.now other c.in_ok-behind_space.ensures c.in_ok-rest.ensures e) stop))

@@ -15,4 +15,4 @@ none_behind bytes after token rest e f plain stop none a r h sr g =
 pub returns-in_err-a : goal.returns-in_err-a
 returns-in_err-a c =
     rw c.from_residual-in_err-a.ensures
-    (none_behind _ c.in_ok-behind.field-0.now _ _ c.in_ok-behind.ensures c.split_token.ensures.cut c.split_token.ensures.plain c.split_token.ensures.stop c.in_err-a.ensures)
+    (none_behind _ c.in_ok-text.text.now _ _ c.in_ok-text.ensures c.split_token.ensures.cut c.split_token.ensures.plain c.split_token.ensures.stop c.in_err-a.ensures)

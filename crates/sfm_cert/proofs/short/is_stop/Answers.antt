@@ -2,7 +2,7 @@ use Rattle.std.proofs.Common.{refl, inl}
 use Rattle.std.proofs.lemmas.Bool.{eqb-true, eq-eqb}
 use Rattle.sfm_cert.proofs.Needs.{not_empty, is_empty_nil}
 use Rattle.sfm_cert.proofs.Names.{stop_head, head_of_stop}
-use Rattle.sfm_cert.proofs.lists.is_stop.Goals as goal
+use Rattle.sfm_cert.proofs.short.is_stop.Goals as goal
 
 pub returns-then-is_empty : goal.returns-then-is_empty
 returns-then-is_empty c = (λ _. inl (is_empty_nil _ _ c.is_empty.ensures c.if-is_empty.true), λ _. refl)
