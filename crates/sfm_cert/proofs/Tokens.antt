@@ -1,10 +1,10 @@
 -- Where a name or a number ends: what stands in front of a separator is told by the bytes, and a number by its text.
-use Rattle.std.proofs.Common.{◌≡◌, ◌≢◌, ℕ, suc, ◌+◌, ◌-◌, ◌<◌, ◌≤◌, ◌^◌, ◌⊎◌, List, [], ◌∷◌, ◌++◌, length, get_or, take, drop, ℤ, pos, negsuc, nat_abs, inr, refl, sym, ap, subst, ◌∙◌, arith}
+use Rattle.std.proofs.Common.{◌≡◌, ◌≢◌, ℕ, suc, ◌+◌, ◌-◌, ◌<◌, ◌≤◌, ◌^◌, ◌⊎◌, List, [], ◌∷◌, ◌++◌, length, get_or, take, drop, ℤ, pos, negsuc, nat_abs, Bor, inr, refl, sym, ap, subst, ◌∙◌, arith}
 use Rattle.std.specs.Prelude.{Option, Some, None, MatchOption}
 use Rattle.std.specs.List.{All}
 use Rattle.std.specs.Fmt.{decimal, signed_decimal}
 use Rattle.std.specs.Str.Parse.{AllDigits}
-use Rattle.std.proofs.lemmas.List.{append_assoc, take-append-drop, take_rest, drop_more}
+use Rattle.std.proofs.lemmas.List.{append_assoc, append_cancel_left, take-append-drop, take_rest, drop_more}
 use Rattle.std.proofs.lemmas.List.Elements.{All-nil, All-cons, All-head, All-tail, All-weaker, All-append}
 use Rattle.std.proofs.lemmas.Int.{ints}
 use Rattle.std.proofs.lemmas.Str.Parse.{digit_from_value}
@@ -133,3 +133,10 @@ pub slope_parts : (bytes front back : List ℕ) (p q : ℤ) → All (λ c. c ≢
 slope_parts bytes front back p q h e k f =
     let (a, b) = same_front 47 front (signed_decimal p) (47 ∷ back) (47 ∷ signed_decimal q) h (no_slash _ (entry_plain p k)) (inr (back, refl)) (inr (signed_decimal q, refl)) (sym e ∙ f ∙ slope_cut p q) in
     (a, cc)
+
+-- ---- one word behind another
+
+pub behind_both : (line word label rest : List ℕ) (r : Option (Bor (List ℕ))) → line ≡ word ++ rest → MatchOption r ((d : List ℕ) → rest ≡ label ++ d → ⊥) (λ x. rest ≡ label ++ x.now)
+    → MatchOption r ((d : List ℕ) → line ≡ word ++ (label ++ d) → ⊥) (λ x. line ≡ word ++ (label ++ x.now))
+behind_both line word label rest None e h = λ d p. h d (append_cancel_left word rest (label ++ d) (sym e ∙ p))
+behind_both line word label rest (Some x) e h = e ∙ ap (λ z. word ++ z) h

@@ -10,7 +10,7 @@ use crate::head::Head;
 use crate::numbers::{
     behind, behind_space, needs_of, numbers_into, numbers_of, read_entry, slope_of, split_token,
 };
-use crate::short::is_stop;
+use crate::short::{is_stop, short_count};
 use crate::spot::Spot;
 use itoa::Buffer;
 use sfm_base::{Memory, Set};
@@ -104,8 +104,15 @@ fn behind_count<'a>(line: &'a [u8], word: &[u8], count: usize) -> Option<&'a [u8
         ((rest : List ℕ) → line.now ≡ word.now ++ (decimal count ++ rest) → ⊥)
         (λ rest. line.now ≡ word.now ++ (decimal count ++ rest.now)) }
 {
+    let text = behind(line, word)?;
+    if let Some((found, rest)) = short_count(text) {
+        if found == count as u64 {
+            return Some(rest);
+        }
+    }
+    // A count of more than 18 digits, one with further digits behind it, or another one.
     let mut buffer = Buffer::new();
-    behind_label(line, word, buffer.format(count).as_bytes())
+    behind(text, buffer.format(count).as_bytes())
 }
 
 /// The bytes behind a word and the label of a term.
