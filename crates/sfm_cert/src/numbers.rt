@@ -51,6 +51,7 @@ pub fn behind_space(bytes: &[u8]) -> Option<&[u8]>
 }
 
 /// The number behind the space at the front, and the bytes behind that number.
+#[inline(always)]
 fn split_entry(bytes: &[u8]) -> Option<(i128, &[u8])>
     ensures { MatchOption result
         ((a : ℤ) (rest : List ℕ) → IsEntry a → IsStop rest
@@ -61,7 +62,17 @@ fn split_entry(bytes: &[u8]) -> Option<(i128, &[u8])>
     if let Some(cut) = short_entry(text) {
         return Some(cut);
     }
-    let (token, rest) = split_token(text);
+    long_entry(text)
+}
+
+/// The number at the front, of however many digits, and the bytes behind it.
+fn long_entry(bytes: &[u8]) -> Option<(i128, &[u8])>
+    ensures { MatchOption result
+        ((a : ℤ) (rest : List ℕ) → IsEntry a → IsStop rest
+        → bytes.now ≡ signed_decimal a ++ rest → ⊥)
+        (λ r. IsEntry r.0 × IsStop r.1.now × (bytes.now ≡ signed_decimal r.0 ++ r.1.now)) }
+{
+    let (token, rest) = split_token(bytes);
     let a = read_entry(token)?;
     Some((a, rest))
 }

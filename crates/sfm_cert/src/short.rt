@@ -7,6 +7,7 @@ ghost use Rattle.sfm_cert.specs.Lists.{IsStop};
 const MOST_DIGITS: usize = 18;
 
 /// The number at the front, where it has at most 18 digits and nothing or a space follows, and the bytes behind it.
+#[inline(always)]
 pub fn short_entry(bytes: &[u8]) -> Option<(i128, &[u8])>
     ensures { IfSome result (λ r. IsEntry r.0 × IsStop r.1.now
         × (bytes.now ≡ signed_decimal r.0 ++ r.1.now)) }
