@@ -99,6 +99,7 @@ fn behind_label<'a>(line: &'a [u8], word: &[u8], label: &[u8]) -> Option<&'a [u8
 }
 
 /// The bytes behind a word and a count.
+#[inline(always)]
 fn behind_count<'a>(line: &'a [u8], word: &[u8], count: usize) -> Option<&'a [u8]>
     ensures { MatchOption result
         ((rest : List ℕ) → line.now ≡ word.now ++ (decimal count ++ rest) → ⊥)
