@@ -34,7 +34,8 @@ PARTS = [
         "sfm_spec.Blocks", "sfm_spec.Walks", "sfm_spec.Bounds", "sfm_spec.", "sfm_layers.", "sfm_squares."]),
     ("Terms as they are kept", [
         "sfm_base/", "sfm_base.", "sfm_law.", "sfm_simple.", "sfm_simple/", "sfm_concave.", "sfm_concave/",
-        "sfm_laminar.", "sfm_laminar/", "sfm_matroid.", "sfm_matroid/", "sfm_kind/", "sfm_kind."]),
+        "sfm_laminar.", "sfm_laminar/", "sfm_graphic.", "sfm_graphic/", "sfm_matroid.", "sfm_matroid/", "sfm_kind/",
+        "sfm_kind."]),
     ("Instance texts", [
         "sfm_spec.Names", "sfm_base.NumberText", "sfm_lines.Lines", "sfm_lines/word", "sfm_lines.Parts",
         "sfm_lines.LabelTerms", "sfm_lines.RankLines", "sfm_lines.Versions", "sfm_lines.Words", "sfm_lines.TermLines", "sfm_lines/",

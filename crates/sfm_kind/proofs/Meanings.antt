@@ -23,9 +23,9 @@ use Rattle.sfm_concave.specs.ConcaveLaws as concaves
 use Rattle.sfm_concave.specs.UniformLaws.{uniform-greedy}
 use Rattle.sfm_concave.proofs.UniformRanks.{uniform-weighted}
 use Rattle.sfm_laminar.specs.LaminarLaws.{laminar_value, laminar-function, laminar-greedy}
-use Rattle.sfm_matroid.specs.Graphs.{graphic_value}
+use Rattle.sfm_graphic.specs.Graphs.{graphic_value}
 use Rattle.sfm_matroid.specs.Slots.{transversal_value}
-use Rattle.sfm_matroid.specs.GraphicLaws.{graphic-function, graphic-greedy}
+use Rattle.sfm_graphic.specs.GraphicLaws.{graphic-function, graphic-greedy}
 use Rattle.sfm_matroid.specs.TransversalLaws.{transversal-function, transversal-greedy}
 use Rattle.sfm_kind.specs.Kinds.{kind_value, kind_size, kind_start}
 use Rattle.sfm_kind.specs.Meanings.{kind_places, IsIndependentIn, IsValueOf, IsMeaningOf, value_of_all, size_by, total_by, IsStartOf, AreStarts}

@@ -18,7 +18,8 @@ use Rattle.sfm_layers.specs.Weights.{IsGreatestWeight, AreLevels, at_least}
 use Rattle.sfm_layers.proofs.Ones.{greatest-of-rank}
 use Rattle.sfm_concave.proofs.UniformRanks.{IsWithinCap, uniform_rank, uniform-ranks, uniform-spread}
 use Rattle.sfm_laminar.proofs.Cut.{laminar-spread}
-use Rattle.sfm_matroid.proofs.Restricted.{graphic-spread, transversal-spread}
+use Rattle.sfm_graphic.proofs.Restricted.{graphic-spread}
+use Rattle.sfm_matroid.proofs.Restricted.{transversal-spread}
 use Rattle.sfm_kind.specs.Meanings.{kind_places, IsIndependentIn, factor_of}
 use Rattle.sfm_kind.specs.Layers.{IsWeight, IsRankKind}
 use Rattle.sfm_kind.specs.Restricted.{IsKeptPart, IsRestricted, IsRankOver, IsLayerFactor, level_behind}

@@ -7,8 +7,8 @@ use Rattle.sfm_rank.specs.Matroids.{IsMatroid, AreRanks}
 use Rattle.sfm_layers.specs.Weights.{IsWeightedRank}
 use Rattle.sfm_concave.proofs.UniformRanks.{uniform_rank, uniform-matroid, uniform-ranks}
 use Rattle.sfm_laminar.specs.Ranks.{rank, caps-matroid, caps-ranks}
-use Rattle.sfm_matroid.specs.Graphs.{graphic_rank}
-use Rattle.sfm_matroid.specs.Forests.{forest-matroid, graphic-ranks}
+use Rattle.sfm_graphic.specs.Graphs.{graphic_rank}
+use Rattle.sfm_graphic.specs.Forests.{forest-matroid, graphic-ranks}
 use Rattle.sfm_matroid.specs.Slots.{transversal_rank}
 use Rattle.sfm_matroid.specs.Matchings.{matching-matroid}
 use Rattle.sfm_matroid.specs.Transversals.{transversal-ranks}

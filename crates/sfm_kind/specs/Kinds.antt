@@ -13,8 +13,8 @@ use Rattle.sfm_concave.specs.ConcaveLaws.{concave_start, concave-family, concave
 use Rattle.sfm_concave.specs.ConcaveLaws as concaves
 use Rattle.sfm_concave.specs.UniformLaws.{uniform_size, uniform_start, uniform-family, uniform-submodular, uniform-bounded, uniform-starts, uniform-starts_small, uniform-starts_times}
 use Rattle.sfm_laminar.specs.LaminarLaws.{laminar_value, laminar_size, laminar_start, laminar-family, laminar-submodular, laminar-bounded, laminar-starts, laminar-starts_small, laminar-starts_times}
-use Rattle.sfm_matroid.specs.Graphs.{graphic_value, graphic_size, graphic_start}
-use Rattle.sfm_matroid.specs.GraphicLaws.{graphic-family, graphic-submodular, graphic-bounded, graphic-starts, graphic-starts_small, graphic-starts_times}
+use Rattle.sfm_graphic.specs.Graphs.{graphic_value, graphic_size, graphic_start}
+use Rattle.sfm_graphic.specs.GraphicLaws.{graphic-family, graphic-submodular, graphic-bounded, graphic-starts, graphic-starts_small, graphic-starts_times}
 use Rattle.sfm_matroid.specs.Slots.{transversal_value, transversal_size, transversal_start}
 use Rattle.sfm_matroid.specs.TransversalLaws.{transversal-family, transversal-submodular, transversal-bounded, transversal-starts, transversal-starts_small, transversal-starts_times}
 use Rattle.sfm_kind.specs.declared.kind.Kind.{Kind}

@@ -3,7 +3,8 @@ use Rattle.std.specs.Prelude.{ℕ, List, ℤ}
 use Rattle.sfm_spec.specs.Kinds.{Edge, Group}
 use Rattle.sfm_concave.specs.Rankings.{IsRanking}
 use Rattle.sfm_laminar.specs.Slacks.{laminar_fits}
-use Rattle.sfm_matroid.specs.Notes.{graphic_fits, transversal_fits}
+use Rattle.sfm_graphic.specs.Notes.{graphic_fits}
+use Rattle.sfm_matroid.specs.Notes.{transversal_fits}
 use Rattle.sfm_kind.specs.declared.kind.KindNote.{KindNote}
 use Rattle.sfm_kind.specs.declared.kind.KindNote.TheVariants.{Nothing, Laminar, Graphic, Transversal, Concave}
 

@@ -9,9 +9,10 @@ ghost use Rattle.sfm_kind.specs.{Meanings.{kind_places, IsValueOf, IsMeaningOf, 
 
 use sfm_base::{Memory, Set};
 use sfm_concave::{Concave, Uniform};
+use sfm_graphic::Graphic;
 use sfm_laminar::Laminar;
 use sfm_law::{At, Lead, Room, Swap, Term};
-use sfm_matroid::{Graphic, Transversal};
+use sfm_matroid::Transversal;
 use sfm_simple::{Cover, Cut, Need, Table, Weight};
 use std::alloc::Global;
 

@@ -6,10 +6,11 @@ ghost use Rattle.sfm_kind.specs.Meanings.{kind_places};
 
 use sfm_base::{Memory, Set};
 use sfm_concave::Uniform;
+use sfm_graphic::Graphic;
 use sfm_kind::Kind;
 use sfm_laminar::{Groups, Laminar};
 use sfm_law::Term;
-use sfm_matroid::{Entries, Graphic, Transversal};
+use sfm_matroid::{Entries, Transversal};
 use std::alloc::Global;
 
 /// What is kept of a rank, and what is left of it.

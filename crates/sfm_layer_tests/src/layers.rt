@@ -7,9 +7,9 @@ ghost use Rattle.sfm_layer_tests.specs.Weighed.{AreThreeWeighed, IsOfThree};
 
 use sfm_base::Memory;
 use sfm_concave::Uniform;
+use sfm_graphic::Graphic;
 use sfm_kind::{Instance, Kind, Layers, Weighed, is_name};
 use sfm_law::Term;
-use sfm_matroid::Graphic;
 use sfm_simple::Weight;
 use std::alloc::Global;
 

@@ -1,6 +1,6 @@
 // The line `rank`, a number, `graphic`, a colon, and at least one edge `name=vertex-vertex`.
 ghost use Rattle.std.specs.{Prelude.{◌≡◌, ◌<◌, ℕ, List, [], ◌∷◌, length, map, ◌^◌, MatchBool, MatchOption, IfOk, codes}, List.{All, AllZip}};
-ghost use Rattle.sfm_matroid.specs.Ends.{edges_of};
+ghost use Rattle.sfm_graphic.specs.Ends.{edges_of};
 ghost use Rattle.sfm_lines.specs.{Lines.{texts_of}, Parts.{IsLabelToken, IsLabelledLine}, LabelTerms.{edge_between, numbers_of}, CutParts.{AreLabelled, labelled_parts_of, with_labelled, place_among}, ReadParts.{AreGiven, HasLineParts, IsTermOf, parts_of, label_lists_of, joined}, declared.word.TermWord.TheVariants.{RankWord}, declared.word.RankKind.TheVariants.{GraphicRank}};
 
 use crate::labels::{Labels, different, number_of};
@@ -10,8 +10,8 @@ use crate::rank_head::cut_head;
 use crate::word::RankKind;
 use indexmap::IndexSet;
 use sfm_base::Memory;
+use sfm_graphic::Graphic;
 use sfm_kind::Kind;
-use sfm_matroid::Graphic;
 use std::alloc::{AllocError, Global};
 
 /// An element and the two ends of its edge, or None where the token is no edge.

@@ -1,27 +1,18 @@
-mod MatroidTests
-mod SplitTests
+pub mod MatroidTests
+pub mod SplitTests
 mod Matched
-mod Numbering
-mod Tails
-mod OneTest
-mod GraphicBases
-mod GraphicRooms
+pub mod Demands
 mod TransversalBases
-mod Lending
+pub mod Lending
 mod Options
-mod Beside
-mod Noted
+pub mod Beside
 mod SlotNotes
-mod Fits
+pub mod Fits
 mod Frames
-mod Freed
-mod AnyRank
-mod Passed
+pub mod AnyRank
+pub mod Passed
 mod Kept
-mod Labels
-mod CutForms
-mod Numbers
 mod SlotForms
-mod Multiples
-mod KeptPlaces
+pub mod Multiples
+pub mod KeptPlaces
 pub mod Restricted

@@ -4,10 +4,9 @@ use Rattle.std.specs.List.{All}
 use Rattle.std.proofs.lemmas.Int.{ints, to_z-of_z}
 use mir.Syntax.{w128}
 use Rattle.sfm_spec.specs.Bounds.{IsAtMost, IsEntry, IsFactor, IsGiven}
-use Rattle.sfm_spec.specs.Kinds.{Edge}
 use Rattle.sfm_law.proofs.Fits.{given_fits, given_more, product_fits, rank_fits}
 use Rattle.sfm_assign.specs.Splits.{IsCapacity}
-use Rattle.sfm_matroid.specs.Amounts.{AreEndAmounts, CanAdd, CanWeigh, IsWeight}
+use Rattle.sfm_matroid.specs.Amounts.{CanAdd, CanWeigh, IsWeight}
 use Rattle.sfm_matroid.proofs.Fits.{product_is}
 
 pub factor_fits : (q : ℤ) → IsFactor q → FitsSigned w128 q
@@ -43,12 +42,9 @@ cap_passed q w factor given c is =
     let p = product_is q w (factor_fits q factor) given c is in
     to_z-of_z w128 c (subst (λ z. FitsSigned w128 z) (sym p) (product_fits q w factor (given_more w given))) ∙ p
 
-cap_fits : (c : ℤ) → pos 0 ≤ℤ c → c ≤ℤ pos (10 ^ 24) → FitsSigned w128 c
+pub cap_fits : (c : ℤ) → pos 0 ≤ℤ c → c ≤ℤ pos (10 ^ 24) → FitsSigned w128 c
 cap_fits c low high = omega (arith, ints, low, high)
 
--- amounts and what each end may hold, passed on
-pub end_amounts_passed : (edges : List Edge) (c : ℤ) (x : List ℤ) → AreEndAmounts edges c x → AreEndAmounts edges (to_z w128 (of_z w128 c)) x
-end_amounts_passed edges c x all = subst (λ z. AreEndAmounts edges z x) (sym (to_z-of_z w128 c (cap_fits c all.low all.high))) all
-
+-- what each slot may hold, passed on
 pub capacity_passed : (c : ℤ) → pos 0 ≤ℤ c → c ≤ℤ pos (10 ^ 24) → IsCapacity (to_z w128 (of_z w128 c))
 capacity_passed c low high = subst IsCapacity (sym (to_z-of_z w128 c (cap_fits c low high))) (record { low = low; high = high })

@@ -2,7 +2,6 @@
 use Rattle.std.specs.Prelude.{◌≡◌, ◌≢◌, ℕ, ◌<◌, ◌≤◌, ◌^◌, Bool, List, length, slice_set, slice_index_or, ℤ, pos, ◌+ℤ◌, ◌≤ℤ◌}
 use Rattle.std.specs.List.{All}
 use Rattle.sfm_spec.specs.Bounds.{IsEntry, IsFactor, IsGiven}
-use Rattle.sfm_spec.specs.Kinds.{Edge}
 use Rattle.sfm_spec.specs.Terms.{exchanged}
 use Rattle.sfm_assign.specs.Splits.{CanBeMet, Demands, IsAmount, IsCapacity}
 
@@ -33,13 +32,6 @@ pub record AreCapped (c : ℤ) (x : List ℤ) : Type 0 where
   pub low : pos 0 ≤ℤ c
   pub high : c ≤ℤ pos (10 ^ 24)
   pub within : All (λ a. (pos 0 ≤ℤ a) × (a ≤ℤ c)) x
-
--- amounts for edges, and a number that each end may hold
-pub record AreEndAmounts (edges : List Edge) (c : ℤ) (x : List ℤ) : Type 0 where
-  pub sized : length x ≡ length edges
-  pub amounts : All IsAmount x
-  pub low : pos 0 ≤ℤ c
-  pub high : c ≤ℤ pos (10 ^ 24)
 
 -- what u may be raised by where v has nothing, up to a limit
 pub record IsRaise (x : List ℤ) (u v : ℕ) (limit : ℤ) : Type 0 where

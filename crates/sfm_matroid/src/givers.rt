@@ -14,7 +14,7 @@ use std::alloc::Global;
 /// # Errors
 ///
 /// `Memory` where there is none.
-pub(crate) fn row(
+pub fn row(
     alloc: Global,
     kept: &mut Kept,
     x: &[i128],

@@ -1,29 +1,20 @@
-// Weighted ranks of graphic and transversal matroids as terms: edges of a graph, of which some are independent where they close
-// no trail; and elements, of which some are independent where they have slots of their own entries, all distinct.
+// Weighted ranks of transversal matroids as terms: elements, of which some are independent where they have slots of their own
+// entries, all distinct. And what a term of any matroid whose bases are told by splits is made with: what is asked of the entries of
+// a base, rows, rooms, and the splits that are kept beside it.
 #![tactic(auto)]
 
-pub mod ends;
 pub mod entries;
 mod frame;
-mod givers;
-mod graph;
-pub mod graphic;
-mod growing;
+pub mod givers;
 mod matching;
-mod order;
 pub mod pair;
-mod ranked;
+pub mod ranked;
 mod restrict;
-mod room;
-pub mod rooted;
+pub mod room;
 pub mod splits;
-mod testing;
 pub mod transversal;
 
-pub use ends::Ends;
 pub use entries::Entries;
-pub use graphic::Graphic;
 pub use pair::SplitPair;
-pub use rooted::RootSplit;
 pub use splits::SlotSplit;
 pub use transversal::Transversal;

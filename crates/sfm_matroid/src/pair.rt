@@ -44,7 +44,7 @@ impl SplitPair {
     /// # Errors
     ///
     /// `Memory` where there is none.
-    pub(crate) fn times(&self, alloc: Global, m: i128) -> Result<SplitPair, Memory>
+    pub fn times(&self, alloc: Global, m: i128) -> Result<SplitPair, Memory>
         requires { CanMultiply m self.now.kept.demand }
         ensures kept { IfOk result (λ r. r.kept.demand ≡ demands_times m self.now.kept.demand) }
         ensures spare { IfOk result (λ r. AreBeside r) }
@@ -54,7 +54,7 @@ impl SplitPair {
     }
 
     /// Keeps the spare split, if there is one, in place of the one that is kept, which is the spare one then.
-    pub(crate) fn swap(&mut self)
+    pub fn swap(&mut self)
         requires { AreBeside self.old }
         ensures kept { IsBeside self.old.kept.demand self.new.kept.demand }
         ensures spare { AreBeside self.new }
@@ -69,7 +69,7 @@ impl SplitPair {
     /// # Errors
     ///
     /// `Memory` where there is none.
-    pub(crate) fn raise_spare(
+    pub fn raise_spare(
         &mut self,
         alloc: Global,
         held: &[i128],

@@ -22,7 +22,7 @@ fn ranked(w: i128, count: i128) -> i128
 }
 
 /// The value of elements that are independent together.
-pub(crate) fn worth(w: i128, set: &Set) -> i128
+pub fn worth(w: i128, set: &Set) -> i128
     requires { CanWeigh w set.now }
     ensures value { result ≡ w *ℤ pos (size set.now) }
     ensures small { IsAtMost (10 ^ 21) result }
@@ -31,7 +31,7 @@ pub(crate) fn worth(w: i128, set: &Set) -> i128
 }
 
 /// What no entry of a base of q times the term exceeds.
-pub(crate) fn cap_of(q: i128, w: i128) -> i128
+pub fn cap_of(q: i128, w: i128) -> i128
     requires { AreFactors q w }
     ensures value { result ≡ q *ℤ w }
     ensures low { pos 0 ≤ℤ result }
@@ -62,7 +62,7 @@ fn write_at(m: i128, set: &Set, x: &mut [i128])
 }
 
 /// Writes q·w at the members of a set, and 0 elsewhere.
-pub(crate) fn write_start(q: i128, w: i128, set: &Set, x: &mut [i128])
+pub fn write_start(q: i128, w: i128, set: &Set, x: &mut [i128])
     requires factor { IsFactor q }
     requires given { IsGiven w }
     requires entries { length x.old ≡ length set.now }
@@ -72,7 +72,7 @@ pub(crate) fn write_start(q: i128, w: i128, set: &Set, x: &mut [i128])
 }
 
 /// Whether each entry is from 0 to q·w, and all together are q times the value of a set.
-pub(crate) fn adds_up(x: &[i128], q: i128, w: i128, set: &Set) -> bool
+pub fn adds_up(x: &[i128], q: i128, w: i128, set: &Set) -> bool
     requires { CanAdd q w x.now set.now }
     ensures told { IsTrue result ↔ (All (λ a. (pos 0 ≤ℤ a) × (a ≤ℤ (q *ℤ w))) x.now
         × (total_of x.now ≡ (q *ℤ (w *ℤ pos (size set.now))))) }

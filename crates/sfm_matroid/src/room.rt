@@ -14,14 +14,14 @@ use std::alloc::Global;
 
 /// A place that gets something, one that gives it, and how much that may be.
 #[derive(Clone, Copy)]
-pub(crate) struct Pull {
+pub struct Pull {
     pub u: usize,
     pub v: usize,
     pub limit: i128,
 }
 
 /// What u may get of v: the least of what is wanted, what v has and what u lacks of a number.
-pub(crate) fn pull_of(x: &[i128], cap: i128, swap: &Swap) -> Pull
+pub fn pull_of(x: &[i128], cap: i128, swap: &Swap) -> Pull
     requires capped { AreCapped cap x.now }
     requires pair { IsPair swap.now.u swap.now.v x.now }
     requires wanted { pos 0 ≤ℤ swap.now.a }
@@ -48,7 +48,11 @@ fn without(alloc: Global, x: &[i128], v: usize) -> Result<Vec<i128>, Memory>
 }
 
 /// The entries after an exchange.
-pub(crate) fn moved(alloc: Global, x: &[i128], swap: &Swap) -> Result<Vec<i128>, Memory>
+///
+/// # Errors
+///
+/// `Memory` where there is none.
+pub fn moved(alloc: Global, x: &[i128], swap: &Swap) -> Result<Vec<i128>, Memory>
     requires { CanMove x.now swap.now.u swap.now.v swap.now.a }
     ensures { IfOk result (λ r. r.items ≡ exchanged x.now swap.now.u swap.now.v swap.now.a) }
 {

@@ -45,7 +45,11 @@ impl SlotSplit {
 }
 
 /// The split of demands; None where they cannot be met.
-pub(crate) fn try_split(alloc: Global, demand: Demand) -> Result<Option<Kept>, Memory>
+///
+/// # Errors
+///
+/// `Memory` where there is none.
+pub fn try_split(alloc: Global, demand: Demand) -> Result<Option<Kept>, Memory>
     ensures { IfOk result (IsSplitOrNone demand) }
 {
     match Kept::new(alloc, demand) {
@@ -59,7 +63,11 @@ pub(crate) fn try_split(alloc: Global, demand: Demand) -> Result<Option<Kept>, M
 }
 
 /// A split of demands that can be met.
-pub(crate) fn split_of(alloc: Global, demand: Demand) -> Result<Kept, Memory>
+///
+/// # Errors
+///
+/// `Memory` where there is none.
+pub fn split_of(alloc: Global, demand: Demand) -> Result<Kept, Memory>
     requires { CanBeMet demand.demands demand.lists demand.capacities }
     ensures { IfOk result (λ r. r.demand ≡ demand) }
 {
@@ -71,7 +79,11 @@ pub(crate) fn split_of(alloc: Global, demand: Demand) -> Result<Kept, Memory>
 }
 
 /// Brings a split to other demands over the same lists, and to what slots hold then; false where these cannot be met.
-pub(crate) fn can_bring(
+///
+/// # Errors
+///
+/// `Memory` where there is none.
+pub fn can_bring(
     alloc: Global,
     kept: &mut Kept,
     demands: &[i128],

@@ -2,8 +2,8 @@
 // that joins two labels, and 32 edges, so many that a note is made of another; and terms whose vertices have numbers with gaps
 // between them.
 use crate::facts::{ONE_OF_TWO, has_facts};
+use sfm_graphic::Graphic;
 use sfm_kind::Kind;
-use sfm_matroid::Graphic;
 use std::alloc::Global;
 
 /// Terms of these kinds, and what each answers.

@@ -1,7 +1,7 @@
 -- Each edge is that of its element, by the places of its ends among the different ones.
 use Rattle.std.proofs.Common.{◌≡◌, List, [], ◌∷◌, ℕ, length, get_or, map, refl, ap, sym, ◌∙◌, Bor, arith}
 use Rattle.std.proofs.lemmas.List.{map-append, length-map}
-use Rattle.sfm_matroid.specs.Ends.{edge_of, edges_of}
+use Rattle.sfm_graphic.specs.Ends.{edge_of, edges_of}
 use Rattle.sfm_lines.specs.Lines.{texts_of}
 use Rattle.sfm_lines.specs.LabelTerms.{edge_between}
 use Rattle.sfm_lines.specs.CutParts.{place_among}

@@ -1,5 +1,5 @@
 use Rattle.std.proofs.Common.{◌≡◌, map, take}
-use Rattle.sfm_matroid.specs.Ends.{edges_of}
+use Rattle.sfm_graphic.specs.Ends.{edges_of}
 use Rattle.sfm_lines.specs.Lines.{texts_of}
 use Rattle.sfm_lines.specs.LabelTerms.{edge_between}
 use Rattle.sfm_lines.specs.CutParts.{place_among}

@@ -1,7 +1,7 @@
 use Rattle.std.proofs.Common.{◌<◌, length, pos, ap, sym, ◌∙◌, arith}
 use Rattle.std.proofs.lemmas.Int.{ints}
 use Rattle.std.proofs.lemmas.List.{length-map}
-use Rattle.sfm_matroid.specs.Ends.{edge_of, edges_of}
+use Rattle.sfm_graphic.specs.Ends.{edge_of, edges_of}
 use Rattle.sfm_lines.specs.LabelTerms.{edge_between, numbers_of}
 use Rattle.sfm_kind.specs.declared.kind.Kind.TheVariants.{Graphic}
 use Rattle.sfm_lines.specs.declared.word.RankKind.TheVariants.{GraphicRank}

@@ -1,6 +1,6 @@
 use Rattle.std.proofs.Common.{◌≡◌, List, ℕ, Ok, Err, IfOk, map, sym, ◌∙◌}
 use Rattle.std.proofs.lemmas.Simd.{map-map}
-use Rattle.sfm_matroid.specs.Ends.{edges_of}
+use Rattle.sfm_graphic.specs.Ends.{edges_of}
 use Rattle.sfm_lines.specs.Lines.{texts_of}
 use Rattle.sfm_lines.specs.LabelTerms.{distinct_of, edge_between, numbers_of}
 use Rattle.sfm_lines.specs.CutParts.{place_among}

@@ -5,7 +5,7 @@ use Rattle.std.proofs.lemmas.List.{get_or_read, length-take-le, take_all}
 use Rattle.std.proofs.lemmas.List.Elements.{All-get_or}
 use Rattle.sfm_assign.specs.Splits.{IsAmount}
 use Rattle.sfm_matroid.proofs.Fits.{amount_fits}
-use Rattle.sfm_matroid.proofs.Numbering.{demands-push, same_demands}
+use Rattle.sfm_matroid.proofs.Demands.{demands-push, same_demands}
 use Rattle.sfm_matroid.proofs.matching.push_slots.Goals as goal
 use Rattle.sfm_matroid.proofs.matching.push_slots.Goals.{In_ok-write_numbers}
 

@@ -1,0 +1,16 @@
+use Rattle.std.proofs.Common.{length}
+use Rattle.sfm_law.proofs.Fits.{product_low}
+use Rattle.sfm_matroid.proofs.Passed.{cap_passed}
+use Rattle.sfm_graphic.proofs.GraphicRooms.{row_reach}
+use Rattle.sfm_graphic.proofs.graphic.GraphicTerm.reach_by.Goals as goal
+
+pub returns-clause-reached : goal.returns-clause-reached
+returns-clause-reached c =
+    let r = c.requires in
+    let b = r.based in
+    let s = c.args.self.now in
+    let at = c.args.at.now in
+    let lead = c.args.lead.now in
+    let near = c.in_ok-root_near.ensures in
+    let row = rw (near.noted.split, cap_passed at.q s.w b.factor s.given c.cap_of-cap.result c.cap_of-cap.ensures.value) at c.in_ok-row.ensures.row in
+    row_reach (length s.places) at.q s.w s.ends s.same_count (product_low at.q s.w b.factor s.low) at.x.now b.entries b.base lead.onto c.root_near.new.note.root lead.from r.onto near.end r.from r.leads c.row.new.to c.in_ok-row.ensures.places row

@@ -1,0 +1,14 @@
+use Rattle.std.proofs.Common.{◌∙◌, length, sym}
+use Rattle.sfm_graphic.specs.GraphicLaws.{graphic-greedy}
+use Rattle.sfm_matroid.proofs.AnyRank.{start_passed}
+use Rattle.sfm_graphic.proofs.Kept.{graphic_kept}
+use Rattle.sfm_graphic.proofs.graphic.GraphicTerm.start.Goals as goal
+
+pub write_start-requires-clause-entries : goal.write_start-requires-clause-entries
+write_start-requires-clause-entries c = c.requires.entries ∙ sym (graphic_kept c.args.self.now)
+
+pub returns-clause-start : goal.returns-clause-start
+returns-clause-start c = let s = c.args.self.now in start_passed c.args.q s.w c.ranges.q s.given _ _ s.based _ c.write_start.ensures
+
+pub returns-clause-greedy : goal.returns-clause-greedy
+returns-clause-greedy c = let s = c.args.self.now in let e = returns-clause-start c in rw e (graphic-greedy (length s.places) s.w s.ends s.same_count s.low c.args.q)

@@ -1,0 +1,9 @@
+pub mod Graphs
+pub mod Ends
+pub mod Cuts
+pub mod Numbered
+pub mod Notes
+pub mod Runs
+pub mod Trails
+pub mod Forests
+pub mod GraphicLaws

@@ -1,8 +1,0 @@
--- the edges so far
-use Rattle.std.proofs.Common.{◌≡◌, take}
-use Rattle.sfm_matroid.specs.Ends.{edges_of}
-use Rattle.sfm_matroid.specs.Numbered.{numbered}
-use Rattle.sfm_matroid.proofs.graph.placed.Given as goal
-
-abbrev pub invariant-loop-pair : goal.invariant-loop-pair
-invariant-loop-pair l = edges_of l.numbers.items ≡ take l.pair-index (numbered (edges_of l.ends))

@@ -1,6 +1,0 @@
-use Rattle.std.proofs.Common.{length}
-use Rattle.sfm_matroid.specs.GraphicLaws.{graphic-function}
-use Rattle.sfm_matroid.proofs.graphic.Graphic.values_are_ranks.Goals as goal
-
-pub returns : goal.returns
-returns c = let s = c.args.self.now in graphic-function (length s.places) s.w s.ends s.same_count

@@ -1,6 +1,0 @@
-use Rattle.sfm_matroid.proofs.Kept.{graphic_kept}
-use Rattle.sfm_matroid.proofs.Passed.{weigh_passed}
-use Rattle.sfm_matroid.proofs.graphic.GraphicTerm.size.Goals as goal
-
-pub worth-requires : goal.worth-requires
-worth-requires c = let s = c.args.self.now in weigh_passed s.w s.basis s.given s.low (rw (graphic_kept s) s.few)
