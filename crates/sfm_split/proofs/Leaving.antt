@@ -1,5 +1,5 @@
 -- Amounts taken off the totals one after the other, and the demands that then lack something, in a list.
-use Rattle.std.proofs.Common.{◌≡◌, ℕ, ◌+◌, ◌<◌, ◌≤◌, List, [], ◌∷◌, ◌++◌, length, set, drop, ℤ, pos, ◌+ℤ◌, ◌-ℤ◌, ◌≤ℤ◌, refl, sym, ap, ◌∙◌, arith, ⊎_elim, length-set, get_or-set_other, get_or-set_same}
+use Rattle.std.proofs.Common.{◌≡◌, ℕ, ◌+◌, ◌<◌, ◌≤◌, List, [], ◌∷◌, ◌++◌, length, set, drop, ℤ, pos, ◌+ℤ◌, ◌-ℤ◌, ◌≤ℤ◌, ◌<ℤ◌, refl, sym, ap, ◌∙◌, arith, ⊎_elim, length-set, get_or-set_other, get_or-set_same}
 use Rattle.std.proofs.lemmas.Int.{ints}
 use Rattle.std.proofs.lemmas.Bool.{cases_eq, cases_lt}
 use Rattle.std.proofs.lemmas.List.{get_or-drop, drop_all, length_push, get_or_push, get_or_append_left}
@@ -90,11 +90,10 @@ left_taken totals labels y z left j a below h got = record {
 -- ---- the demands that lack something
 
 pub listed_none : (lacks : List ℤ) → ListsBelow 0 lacks []
-listed_none lacks = record { rising = λ j k less lt. absurd (omega (arith, lt)); below = λ k lt. absurd (omega (arith, lt)); all = λ i lt some. absurd (omega (arith, lt)) }
+listed_none lacks = record { below = λ k lt. absurd (omega (arith, lt)); all = λ i lt some. absurd (omega (arith, lt)) }
 
 pub listed_skip : (i : ℕ) (lacks : List ℤ) (list : List ℕ) → amount_at lacks i ≤ℤ pos 0 → ListsBelow i lacks list → ListsBelow (i + 1) lacks list
 listed_skip i lacks list none h = record {
-  rising = h.rising;
   below = λ k lt. let b = h.below k lt in omega (arith, b);
   all = λ j lt some. ⊎_elim
       (λ (l : j < i). h.all j l some)
@@ -102,21 +101,8 @@ listed_skip i lacks list none h = record {
       (cases_lt j i);
 }
 
-pub listed_more : (i : ℕ) (lacks : List ℤ) (list : List ℕ) → ListsBelow i lacks list → ListsBelow (i + 1) lacks (list ++ i ∷ [])
-listed_more i lacks list h = record {
-  rising = λ j k less lt. ⊎_elim
-      (λ (l : k < length list). let a = old j (omega (arith, l, less)) in let b = old k l in let r = h.rising j k less l in omega (arith, a, b, r))
-      (λ ge. let q = last k ge lt in let lj : j < length list = omega (arith, less, ge, lt, long) in let a = old j lj in let r = h.below j lj in omega (arith, a, q, r))
-      (cases_lt k (length list));
-  below = λ k lt. ⊎_elim
-      (λ (l : k < length list). let a = old k l in let r = h.below k l in omega (arith, a, r))
-      (λ ge. let q = last k ge lt in omega (arith, q))
-      (cases_lt k (length list));
-  all = λ j lt some. ⊎_elim
-      (λ (l : j < i). let (k, lk, q) = h.all j l some in (k, omega (arith, lk, long), old k lk ∙ q))
-      (λ ge. (length list, omega (arith, long), last (length list) (omega arith) (omega (arith, long)) ∙ omega (arith, ge, lt)))
-      (cases_lt j i);
-} where
+-- a number at the end of a list
+module _ (list : List ℕ) (i : ℕ) where
   long : length (list ++ i ∷ []) ≡ length list + 1
   long = length_push list i
 
@@ -126,21 +112,82 @@ listed_more i lacks list h = record {
   last : (k : ℕ) → length list ≤ k → k < length (list ++ i ∷ []) → label_at (list ++ i ∷ []) k ≡ i
   last k ge lt = let l = long in get_or_push list i 0 k (omega (arith, ge, lt, l))
 
+  -- what stands in a longer list below n
+  below_more : (n : ℕ) → i < n → ((k : ℕ) → k < length list → label_at list k < n) → (k : ℕ) → k < length (list ++ i ∷ []) → label_at (list ++ i ∷ []) k < n
+  below_more n li h k lt = ⊎_elim
+      (λ (l : k < length list). let a = old k l in let r = h k l in omega (arith, a, r))
+      (λ ge. let q = last k ge lt in omega (arith, q, li))
+      (cases_lt k (length list))
+
+  abbrev StandsIn : List ℕ → ℕ → Type 0
+  StandsIn l j = (k : ℕ) × (k < length l) × (label_at l k ≡ j)
+
+  stands_more : (j : ℕ) → StandsIn list j → StandsIn (list ++ i ∷ []) j
+  stands_more j h = let l = long in let (k, lk, q) = h in (k, omega (arith, lk, l), old k lk ∙ q)
+
+  stands_last : (j : ℕ) → j ≡ i → StandsIn (list ++ i ∷ []) j
+  stands_last j q = let l = long in (length list, omega (arith, l), last (length list) (omega arith) (omega (arith, l)) ∙ sym q)
+
+pub listed_more : (i : ℕ) (lacks : List ℤ) (list : List ℕ) → ListsBelow i lacks list → ListsBelow (i + 1) lacks (list ++ i ∷ [])
+listed_more i lacks list h = record {
+  below = below_more list i (i + 1) (omega arith) (λ k lt. let b = h.below k lt in omega (arith, b));
+  all = λ j lt some. ⊎_elim
+      (λ (l : j < i). stands_more list i j (h.all j l some))
+      (λ ge. stands_last list i j (omega (arith, ge, lt)))
+      (cases_lt j i);
+}
+
 -- where no demand lacks more than before
 pub listed_on : (lacks after : List ℤ) (list : List ℕ) → length after ≡ length lacks → ((i : ℕ) → i < length lacks → amount_at after i ≤ℤ amount_at lacks i) → ListsLacking lacks list → ListsLacking after list
 listed_on lacks after list same le h = record {
-  rising = h.rising;
   below = λ k lt. let b = h.below k lt in omega (arith, b, same);
   all = λ i lt some. let li : i < length lacks = omega (arith, lt, same) in let l = le i li in h.all i li (omega (arith, ints, l, some));
+}
+
+-- where no demand lacks anything
+pub listed_nothing : (lacks : List ℤ) → ((i : ℕ) → i < length lacks → amount_at lacks i ≤ℤ pos 0) → ListsLacking lacks []
+listed_nothing lacks none = record {
+  below = λ k lt. absurd (omega (arith, lt));
+  all = λ i lt some. let n = none i lt in absurd (omega (arith, ints, n, some));
 }
 
 -- where one demand alone lacks something
 pub listed_one : (lacks : List ℤ) (u : ℕ) → u < length lacks → ((i : ℕ) → i < length lacks → (i ≡ u → ⊥) → amount_at lacks i ≤ℤ pos 0) → ListsLacking lacks (u ∷ [])
 listed_one lacks u lu none = record {
-  rising = λ j k less lt. absurd (omega (arith, less, lt));
   below = λ k lt. let q : k ≡ 0 = omega (arith, lt) in rw q lu;
   all = λ i lt some. ⊎_elim
       (λ (q : i ≡ u). (0, omega arith, sym q))
       (λ ne. let n = none i lt ne in absurd (omega (arith, ints, n, some)))
       (cases_eq i u);
 }
+
+-- what one demand lacks changes
+module _ (lacks : List ℤ) (list : List ℕ) (i : ℕ) (v : ℤ) (lt : i < length lacks) (h : ListsLacking lacks list) where
+  -- another that lacks something then did so before
+  other_lacks : (j : ℕ) → (j ≡ i → ⊥) → pos 0 <ℤ amount_at (set lacks i v) j → pos 0 <ℤ amount_at lacks j
+  other_lacks j ne some = let g = get_or-set_other lacks i j v (pos 0) ne in omega (arith, ints, g, some)
+
+  -- the demand is listed once more
+  pub listed_besides : ListsLacking (set lacks i v) (list ++ i ∷ [])
+  listed_besides = let p = length-set lacks i v in record {
+    below = below_more list i (length (set lacks i v)) (omega (arith, p, lt)) (λ k lk. let b = h.below k lk in omega (arith, b, p));
+    all = λ j lj some. ⊎_elim
+        (λ (q : j ≡ i). stands_last list i j q)
+        (λ ne. stands_more list i j (h.all j (omega (arith, p, lj)) (other_lacks j ne some)))
+        (cases_eq j i);
+  }
+
+  -- the list serves where the demand lacked something before, or lacks nothing then
+  pub listed_still : (pos 0 <ℤ v → pos 0 <ℤ amount_at lacks i) → ListsLacking (set lacks i v) list
+  listed_still more = let p = length-set lacks i v in record {
+    below = λ k lk. let b = h.below k lk in omega (arith, b, p);
+    all = λ j lj some. ⊎_elim
+        (λ (q : j ≡ i).
+        let g = get_or-set_same lacks i v (pos 0) lt in
+        let w = ap (λ m. amount_at (set lacks i v) m) q in
+        let m = more (omega (arith, ints, g, w, some)) in
+        let e = ap (λ m. amount_at lacks m) q in
+        h.all j (omega (arith, q, lt)) (omega (arith, ints, m, e)))
+        (λ ne. h.all j (omega (arith, p, lj)) (other_lacks j ne some))
+        (cases_eq j i);
+  }

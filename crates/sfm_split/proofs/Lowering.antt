@@ -8,7 +8,7 @@ use Rattle.std.proofs.lemmas.List.Elements.{All-get_or, All-set}
 use mir.Syntax.{w128}
 use Rattle.sfm_split.specs.Splits.{sum_at, amount_at, IsAmount, IsCapacity}
 use Rattle.sfm_split.specs.Cells.{label_at, AreCells}
-use Rattle.sfm_split.specs.Search.{AreLeft, ListsBelow, ListsLacking}
+use Rattle.sfm_split.specs.Search.{AreLeft}
 use Rattle.sfm_split.specs.Pours.{IsPouring, AreWithin}
 use Rattle.sfm_split.specs.Lowers.{IsCharge, AreSmall, AreCharged, AreLowered, IsStanding, StandsBy, IsTotal, turned, CanPut, lacks_put, rooms_put}
 use Rattle.sfm_split.specs.Sides.{of_side}
@@ -141,12 +141,6 @@ module _ (whos slots : List ℕ) (y lacks rooms : List ℤ) where
       lacks_rise = λ i. at_raised lacks (label_at whos e) i a low;
       rooms_rise = λ s. at_raised rooms (label_at slots e) s a low;
     }
-
-  -- at other places of either side nothing is given back
-  pub others_stay : (e : ℕ) (a : ℤ) (side : Side) (j : ℕ) → (j ≡ label_at (of_side side whos slots) e → ⊥)
-      → amount_at (of_side side (set lacks (label_at whos e) (amount_at lacks (label_at whos e) +ℤ a)) (set rooms (label_at slots e) (amount_at rooms (label_at slots e) +ℤ a))) j ≡ amount_at (of_side side lacks rooms) j
-  others_stay e a Demands j ne = get_or-set_other lacks (label_at whos e) j (amount_at lacks (label_at whos e) +ℤ a) (pos 0) ne
-  others_stay e a Slots j ne = get_or-set_other rooms (label_at slots e) j (amount_at rooms (label_at slots e) +ℤ a) (pos 0) ne
 
   module _ (w : AreCharged whos slots y lacks rooms) where
     pub charged_cells : AreCells (length lacks) (length rooms) whos slots
@@ -435,15 +429,3 @@ module _ (side : Side) (totals before others : List ℤ) (whos slots : List ℕ)
             let low = put_low now others whos slots y lacks rooms k more side h z lacks' rooms' r here in
             rw (← next_turned) (over_stands _ _ whos slots y (lacks_put side lacks k more) (rooms_put side rooms k more) over z lacks' rooms' r low.0 low.1);
       }
-
--- the demands below k that lack something stay listed where only what k lacks changes
-pub listed_stays : (k : ℕ) (lacks after : List ℤ) (list : List ℕ) → ((j : ℕ) → (j ≡ k → ⊥) → amount_at after j ≡ amount_at lacks j) → ListsBelow k lacks list → ListsBelow k after list
-listed_stays k lacks after list same h = record {
-  rising = h.rising;
-  below = h.below;
-  all = λ i lt some. let e = same i (λ q. absurd (omega (arith, lt, q))) in h.all i lt (omega (arith, ints, e, some));
-}
-
--- once all are passed
-pub listed_whole : (k : ℕ) (lacks : List ℤ) (list : List ℕ) → k ≡ length lacks → ListsBelow k lacks list → ListsLacking lacks list
-listed_whole k lacks list all h = rw all at h

@@ -86,7 +86,7 @@ queued_more nodes queue i b lt out q = record {
 -- of the first k demands of a list, those that lack something were found, and no others
 pub record AreRootsTo (lacks : List ℤ) (list : List ℕ) (nodes : List (Option Node)) (queue : List ℕ) (k : ℕ) : Type 0 where
   pub places : length nodes ≡ length lacks
-  pub found : (i : ℕ) (b : Node) → node_at nodes i ≡ Some b → ((j : ℕ) × (j < k) × (label_at list j ≡ i)) × IsRoot (amount_at lacks i) (Some b)
+  pub found : (i : ℕ) (b : Node) → node_at nodes i ≡ Some b → IsRoot (amount_at lacks i) (Some b)
   pub done : (j : ℕ) → j < k → node_at nodes (label_at list j) ≡ None → amount_at lacks (label_at list j) ≤ℤ pos 0
   pub in_queue : AreQueued nodes queue
 
@@ -99,24 +99,25 @@ roots_none lacks list nodes places none = record {
 }
 
 module _ (lacks : List ℤ) (list : List ℕ) (nodes : List (Option Node)) (queue : List ℕ) (k : ℕ) (inv : AreRootsTo lacks list nodes queue k) where
-  pub roots_skip : amount_at lacks (label_at list k) ≤ℤ pos 0 → AreRootsTo lacks list nodes queue (k + 1)
-  roots_skip full = record {
+  roots_on : (node_at nodes (label_at list k) ≡ None → amount_at lacks (label_at list k) ≤ℤ pos 0) → AreRootsTo lacks list nodes queue (k + 1)
+  roots_on here = record {
     places = inv.places;
-    found = λ i b is. let ((j, lt, q), root) = inv.found i b is in ((j, omega (arith, lt), q), root);
+    found = inv.found;
     done = λ j lt none. ⊎_elim
         (λ (l : j < k). inv.done j l none)
-        (λ ge. let q : j ≡ k = omega (arith, ge, lt) in rw q full)
+        (λ ge. let q : j ≡ k = omega (arith, ge, lt) in rw q (here (ap (λ m. node_at nodes (label_at list m)) (sym q) ∙ none)))
         (cases_lt j k);
     in_queue = inv.in_queue;
   }
 
-  module _ (h : ListsLacking lacks list) (lk : k < length list) where
-    -- the next demand was not found before, as the list rises
-    fresh : node_at nodes (label_at list k) ≡ None
-    fresh = split (node_at nodes (label_at list k))
-        (λ b is. let ((j, lt, q), root) = inv.found (label_at list k) b is in let r = h.rising j k lt lk in absurd (omega (arith, q, r)))
-        (λ out. out)
+  pub roots_skip : amount_at lacks (label_at list k) ≤ℤ pos 0 → AreRootsTo lacks list nodes queue (k + 1)
+  roots_skip full = roots_on (λ none. full)
 
+  -- the next demand was found before
+  pub roots_again : IsFound nodes (label_at list k) → AreRootsTo lacks list nodes queue (k + 1)
+  roots_again found = let (b, is) = found in roots_on (λ none. absurd (some_apart (node_at nodes (label_at list k)) none is))
+
+  module _ (h : ListsLacking lacks list) (lk : k < length list) (fresh : node_at nodes (label_at list k) ≡ None) where
     in_range : label_at list k < length nodes
     in_range = let b = h.below k lk in let p = inv.places in omega (arith, b, p)
 
@@ -124,13 +125,13 @@ module _ (lacks : List ℤ) (list : List ℕ) (nodes : List (Option Node)) (queu
     roots_put b root = record {
       places = length-set nodes i (Some b) ∙ inv.places;
       found = λ m d is. ⊎_elim
-          (λ (q : m ≡ i). ((k, omega arith, sym q), rw (q, same_some (sym (ap (λ e. node_at (set nodes i (Some b)) e) q ∙ here) ∙ is)) root))
-          (λ ne. let ((j, lt, q), old) = inv.found m d (sym (get_or-set_other nodes i m (Some b) None ne) ∙ is) in ((j, omega (arith, lt), q), old))
+          (λ (q : m ≡ i). rw (q, same_some (sym (ap (λ e. node_at (set nodes i (Some b)) e) q ∙ here) ∙ is)) root)
+          (λ ne. inv.found m d (sym (get_or-set_other nodes i m (Some b) None ne) ∙ is))
           (cases_eq m i);
       done = λ j lt none. ⊎_elim
-          (λ (l : j < k). let r = h.rising j k l lk in inv.done j l (sym (get_or-set_other nodes i (label_at list j) (Some b) None (λ q. omega (arith, r, q))) ∙ none))
-          (λ ge. let q : j ≡ k = omega (arith, ge, lt) in absurd (some_apart (node_at (set nodes i (Some b)) i) (ap (λ m. node_at (set nodes i (Some b)) (label_at list m)) (sym q) ∙ none) here))
-          (cases_lt j k);
+          (λ (q : label_at list j ≡ i). absurd (some_apart (node_at (set nodes i (Some b)) i) (ap (λ m. node_at (set nodes i (Some b)) m) (sym q) ∙ none) here))
+          (λ ne. inv.done j (earlier j lt ne) (sym (get_or-set_other nodes i (label_at list j) (Some b) None ne) ∙ none))
+          (cases_eq (label_at list j) i);
       in_queue = queued_more nodes queue i b in_range fresh inv.in_queue;
     } where
       i : ℕ
@@ -139,10 +140,16 @@ module _ (lacks : List ℤ) (list : List ℕ) (nodes : List (Option Node)) (queu
       here : node_at (set nodes (label_at list k) (Some b)) (label_at list k) ≡ Some b
       here = get_or-set_same nodes (label_at list k) (Some b) None in_range
 
+      earlier : (j : ℕ) → j < k + 1 → (label_at list j ≡ label_at list k → ⊥) → j < k
+      earlier j lt ne = ⊎_elim
+          (λ (l : j < k). l)
+          (λ ge. let q : j ≡ k = omega (arith, ge, lt) in absurd (ne (ap (λ m. label_at list m) q)))
+          (cases_lt j k)
+
   pub roots_all : ListsLacking lacks list → length list ≤ k → AreRootsOf lacks nodes
   roots_all h past = record { places = inv.places; each = λ i lt. root i lt (node_at nodes i) refl } where
     root : (i : ℕ) → i < length lacks → (o : Option Node) → node_at nodes i ≡ o → IsRoot (amount_at lacks i) o
-    root i lt (Some b) is = (inv.found i b is).1
+    root i lt (Some b) is = inv.found i b is
     root i lt None is = by_lt_z (pos 0) (amount_at lacks i)
         (λ some. let (j, lj, q) = h.all i lt some in let d = inv.done j (omega (arith, lj, past)) (ap (λ m. node_at nodes m) q ∙ is) in rw (← q) d)
         (λ none. none)

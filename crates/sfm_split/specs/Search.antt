@@ -13,9 +13,8 @@ pub record AreLeft (totals : List ℤ) (labels : List ℕ) (y left : List ℤ) :
   pub places : length left ≡ length totals
   pub each : (k : ℕ) → k < length totals → amount_at left k ≡ (amount_at totals k -ℤ sum_at k labels y)
 
--- a rising list of demands below n that has each of these that lacks something; others may stand in it too
+-- a list of demands below n that has each of these that lacks something; others may stand in it too
 pub record ListsBelow (n : ℕ) (lacks : List ℤ) (list : List ℕ) : Type 0 where
-  pub rising : (j k : ℕ) → j < k → k < length list → label_at list j < label_at list k
   pub below : (k : ℕ) → k < length list → label_at list k < n
   pub all : (i : ℕ) → i < n → pos 0 <ℤ amount_at lacks i → (k : ℕ) × (k < length list) × (label_at list k ≡ i)
 

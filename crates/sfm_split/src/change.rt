@@ -6,7 +6,7 @@ ghost use Rattle.sfm_split.specs.{Splits.{IsAmount, IsCapacity, AreDemands}, Cel
 use crate::cells::Cells;
 use crate::demand::Demand;
 use crate::left::Lefts;
-use crate::lower::{turn_demands, turn_slots};
+use crate::lower::{Side, Turn, turn_side};
 use crate::splitting::{AssignEnd, Shares, raise_all};
 use crate::work::{Work, copy_list, write_zeros};
 use sfm_base::Memory;
@@ -20,7 +20,7 @@ pub struct Aim<'a> {
 }
 
 /// Puts other demands and capacities in place of those that amounts are within, lowers what is too much then, and lists the demands
-/// that lack something.
+/// that come to lack something.
 fn turn(
     cells: &Cells,
     demand: &Demand,
@@ -34,13 +34,24 @@ fn turn(
     requires bounded { All IsCapacity aim.now.capacities.now }
     requires stands { IsStanding demand.now.demands demand.now.capacities cells.now.whos.items
         cells.now.slots.items y.old left.old.lacks.items left.old.rooms.items }
+    requires listed { ListsLacking left.old.lacks.items left.old.lacking.items }
     ensures stands { OnOk result (IsStanding aim.now.demands.now aim.now.capacities.now
         cells.now.whos.items cells.now.slots.items y.new left.new.lacks.items
         left.new.rooms.items) }
     ensures listed { OnOk result (ListsLacking left.new.lacks.items left.new.lacking.items) }
 {
-    turn_slots(cells, aim.capacities, demand.capacities(), left, y);
-    turn_demands(cells, aim.demands, demand.demands(), left, y)?;
+    let slots = Turn {
+        side: Side::Slots,
+        totals: aim.capacities,
+        before: demand.capacities(),
+    };
+    turn_side(cells, &slots, left, y)?;
+    let demands = Turn {
+        side: Side::Demands,
+        totals: aim.demands,
+        before: demand.demands(),
+    };
+    turn_side(cells, &demands, left, y)?;
     Ok(())
 }
 
@@ -109,7 +120,10 @@ pub fn begin(
     ensures lacks { OnOk result (AreLeft demand.now.demands shares.now.cells.whos.items
         shares.now.y.items work.new.left.lacks.items) }
     ensures rooms { OnOk result (work.new.left.rooms.items ≡ rooms.now) }
+    ensures listed { OnOk result (ListsLacking work.new.left.lacks.items
+        work.new.left.lacking.items) }
 {
+    work.left.lacking.clear();
     write_zeros(&mut work.left.lacks, demand.demands())?;
     copy_list(&mut work.left.rooms, rooms)?;
     copy_list(&mut work.y, &shares.y)

@@ -1,8 +1,9 @@
 // What is left of demands or of capacities once the amounts on the cells are taken off. Of many demands few lack something, so these
-// are listed, and what goes over them does not look at the others.
-ghost use Rattle.std.specs.Prelude.{◌≡◌, ℕ, ◌<◌, length, pos, ◌-ℤ◌, ◌≤ℤ◌, ◌<ℤ◌, IfOk, OnOk, MatchOption};
-ghost use Rattle.sfm_split.specs.{Splits.{sum_at, amount_at}, Cells.{label_at, AreCells, IsPart}, Search.{AreLeft, ListsLacking}};
+// are listed where they come to, and what goes over them does not look at the others.
+ghost use Rattle.std.specs.Prelude.{◌≡◌, ℕ, ◌<◌, length, slice_set, pos, ◌+ℤ◌, ◌-ℤ◌, ◌≤ℤ◌, ◌<ℤ◌, IfOk, OnOk, MatchOption};
+ghost use Rattle.sfm_split.specs.{Splits.{sum_at, amount_at}, Cells.{label_at, AreCells, IsPart}, Search.{AreLeft, ListsLacking}, Lowers.{CanPut}};
 
+use crate::augment::put;
 use crate::cells::Cells;
 use sfm_base::Memory;
 use std::alloc::Global;
@@ -11,7 +12,7 @@ use std::alloc::Global;
 pub struct Lefts {
     pub lacks: Vec<i128>,
     pub rooms: Vec<i128>,
-    /// The demands that lack something, in order, once they are listed; those that are met since stay.
+    /// The demands that lack something, once they are listed; those that are met since stay, and one can stand here twice.
     pub(crate) lacking: Vec<usize>,
 }
 
@@ -38,6 +39,23 @@ impl Lefts {
             if self.lacks[i] > 0 {
                 self.lacking.push(i)?;
             }
+        }
+        Ok(())
+    }
+
+    /// Adds to what a demand lacks, and lists it where it comes to lack something.
+    pub(crate) fn put_lack(&mut self, i: usize, a: i128) -> Result<(), Memory>
+        requires can { CanPut self.old.lacks.items i a }
+        requires listed { ListsLacking self.old.lacks.items self.old.lacking.items }
+        ensures lacks { self.new.lacks.items ≡ slice_set self.old.lacks.items i
+            (amount_at self.old.lacks.items i +ℤ a) }
+        ensures rooms { self.new.rooms.items ≡ self.old.rooms.items }
+        ensures listed { OnOk result (ListsLacking self.new.lacks.items self.new.lacking.items) }
+    {
+        let before = self.lacks[i];
+        put(&mut self.lacks, i, a);
+        if before <= 0 && self.lacks[i] > 0 {
+            self.lacking.push(i)?;
         }
         Ok(())
     }

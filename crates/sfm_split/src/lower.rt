@@ -1,10 +1,10 @@
 // Amounts that meet demands, brought within other demands and other capacities. Where a total changes, what is left of it changes as
 // much; it is below nothing where the amounts are too much then. There the cells of the demand, or of the slot, are gone through,
 // and the amounts on them are lowered and given back to their demands and slots. At the end nothing stands on these cells, and
-// no demand or capacity is negative, so nothing is too much there. What is left only rises, so what was mended stays so. First
-// all slots are gone through and then all demands, so that what a demand lacks in the end is known once it was passed.
-ghost use Rattle.std.specs.{Prelude.{◌≡◌, ◌≢◌, ℕ, ◌+◌, ◌<◌, ◌^◌, List, length, ℤ, pos, ◌+ℤ◌, ◌-ℤ◌, ◌≤ℤ◌, OnOk}, List.{All}};
-ghost use Rattle.sfm_split.specs.{Splits.{amount_at, IsAmount, IsCapacity}, Cells.{label_at}, Groups.{AreGroups}, Search.{ListsLacking}, Lowers.{AreCharged, AreLowered, IsStanding, IsTotal, StandsBy, turned, CanPut, lacks_put, rooms_put}, Sides.{of_side}, declared.lower.Side.{Side}};
+// no demand or capacity is negative, so nothing is too much there. What is left only rises, so what was mended stays so. A demand
+// is listed where it comes to lack something, so those that do not change are passed over with one comparison.
+ghost use Rattle.std.specs.{Prelude.{◌≡◌, ℕ, ◌+◌, ◌<◌, ◌^◌, List, length, ℤ, pos, ◌+ℤ◌, ◌-ℤ◌, ◌≤ℤ◌, OnOk}, List.{All}};
+ghost use Rattle.sfm_split.specs.{Splits.{amount_at}, Cells.{label_at}, Groups.{AreGroups}, Search.{ListsLacking}, Lowers.{AreCharged, AreLowered, IsTotal, StandsBy, turned, CanPut, lacks_put, rooms_put}, Sides.{of_side}, declared.lower.Side.{Side}};
 
 use crate::augment::{put, take};
 use crate::cells::Cells;
@@ -13,34 +13,39 @@ use crate::left::Lefts;
 use sfm_base::Memory;
 
 /// Lowers the amount on a cell, by no more than is too much, and gives it back to its demand and its slot.
-fn lower_on(cells: &Cells, e: usize, over: i128, left: &mut Lefts, y: &mut [i128])
+fn lower_on(
+    cells: &Cells,
+    e: usize,
+    over: i128,
+    left: &mut Lefts,
+    y: &mut [i128],
+) -> Result<(), Memory>
     requires cell { e < length cells.now.whos.items }
     requires low { pos 0 ≤ℤ over }
     requires charged { AreCharged cells.now.whos.items cells.now.slots.items y.old
         left.old.lacks.items left.old.rooms.items }
-    ensures lowered { AreLowered cells.now.whos.items cells.now.slots.items y.old
-        left.old.lacks.items left.old.rooms.items y.new left.new.lacks.items left.new.rooms.items }
-    ensures given { pos 1 ≤ℤ amount_at y.new e → (side : Side)
+    requires listed { ListsLacking left.old.lacks.items left.old.lacking.items }
+    ensures lowered { OnOk result (AreLowered cells.now.whos.items cells.now.slots.items y.old
+        left.old.lacks.items left.old.rooms.items y.new left.new.lacks.items
+        left.new.rooms.items) }
+    ensures given { OnOk result (pos 1 ≤ℤ amount_at y.new e → (side : Side)
         → let k = label_at (of_side side cells.now.whos.items cells.now.slots.items) e in amount_at
         (of_side side left.new.lacks.items left.new.rooms.items) k
-        ≡ (amount_at (of_side side left.old.lacks.items left.old.rooms.items) k +ℤ over) }
-    ensures others { (side : Side) (j : ℕ) → j
-        ≢ label_at (of_side side cells.now.whos.items cells.now.slots.items) e
-        → amount_at (of_side side left.new.lacks.items left.new.rooms.items) j
-        ≡ amount_at (of_side side left.old.lacks.items left.old.rooms.items) j }
-    ensures same { left.new.lacking.items ≡ left.old.lacking.items }
+        ≡ (amount_at (of_side side left.old.lacks.items left.old.rooms.items) k +ℤ over)) }
+    ensures listed { OnOk result (ListsLacking left.new.lacks.items left.new.lacking.items) }
 {
     let i = cells.whos[e];
     let s = cells.slots[e];
     let a = over.min(y[e]);
     take(y, e, a);
-    Side::Demands.put(left, i, a);
-    Side::Slots.put(left, s, a);
+    Side::Demands.put(left, i, a)?;
+    Side::Slots.put(left, s, a)?;
+    Ok(())
 }
 
 /// Of which totals amounts are too much: of the demands, or of the capacities of the slots.
 #[derive(Clone, Copy)]
-enum Side {
+pub(crate) enum Side {
     Demands,
     Slots,
 }
@@ -69,16 +74,18 @@ impl Side {
     }
 
     /// Adds to what is left of a total of the side.
-    fn put(self, left: &mut Lefts, k: usize, a: i128)
-        requires { CanPut (of_side self left.old.lacks.items left.old.rooms.items) k a }
+    fn put(self, left: &mut Lefts, k: usize, a: i128) -> Result<(), Memory>
+        requires can { CanPut (of_side self left.old.lacks.items left.old.rooms.items) k a }
+        requires listed { ListsLacking left.old.lacks.items left.old.lacking.items }
         ensures lacks { left.new.lacks.items ≡ lacks_put self left.old.lacks.items k a }
         ensures rooms { left.new.rooms.items ≡ rooms_put self left.old.rooms.items k a }
-        ensures same { left.new.lacking.items ≡ left.old.lacking.items }
+        ensures listed { OnOk result (ListsLacking left.new.lacks.items left.new.lacking.items) }
     {
         match self {
-            Side::Demands => put(&mut left.lacks, k, a),
+            Side::Demands => left.put_lack(k, a)?,
             Side::Slots => put(&mut left.rooms, k, a),
         }
+        Ok(())
     }
 
     /// The cells of each total of the side.
@@ -93,121 +100,98 @@ impl Side {
 }
 
 /// Lowers the amounts on the cells of a demand, or of a slot, until they are no more than its total.
-fn lower_along(cells: &Cells, side: Side, k: usize, left: &mut Lefts, y: &mut [i128])
+fn lower_along(
+    cells: &Cells,
+    side: Side,
+    k: usize,
+    left: &mut Lefts,
+    y: &mut [i128],
+) -> Result<(), Memory>
     requires place { k < length (of_side side left.old.lacks.items left.old.rooms.items) }
     requires charged { AreCharged cells.now.whos.items cells.now.slots.items y.old
         left.old.lacks.items left.old.rooms.items }
-    ensures lowered { AreLowered cells.now.whos.items cells.now.slots.items y.old
-        left.old.lacks.items left.old.rooms.items y.new left.new.lacks.items left.new.rooms.items }
-    ensures mended { pos 0 ≤ℤ amount_at (of_side side left.new.lacks.items left.new.rooms.items) k }
-    ensures others { (j : ℕ) → j ≢ k → amount_at
-        (of_side side left.new.lacks.items left.new.rooms.items) j
-        ≡ amount_at (of_side side left.old.lacks.items left.old.rooms.items) j }
-    ensures same { left.new.lacking.items ≡ left.old.lacking.items }
+    requires listed { ListsLacking left.old.lacks.items left.old.lacking.items }
+    ensures lowered { OnOk result (AreLowered cells.now.whos.items cells.now.slots.items y.old
+        left.old.lacks.items left.old.rooms.items y.new left.new.lacks.items
+        left.new.rooms.items) }
+    ensures mended { OnOk result (pos 0 ≤ℤ amount_at
+        (of_side side left.new.lacks.items left.new.rooms.items) k) }
+    ensures listed { OnOk result (ListsLacking left.new.lacks.items left.new.lacking.items) }
 {
     for e in side.groups(cells).list(k) {
         let over = side.excess(left, k);
         if over <= 0 {
-            return;
+            return Ok(());
         }
-        lower_on(cells, *e, over, left, y);
+        lower_on(cells, *e, over, left, y)?;
     }
+    Ok(())
 }
 
 /// Other totals of a side, and those before them.
 #[derive(Clone, Copy)]
-struct Turn<'a> {
-    side: Side,
-    totals: &'a [i128],
-    before: &'a [i128],
+pub(crate) struct Turn<'a> {
+    pub side: Side,
+    pub totals: &'a [i128],
+    pub before: &'a [i128],
 }
 
 /// Puts one total of a side in place of the one before, and lowers the amounts on its cells until they are no more than it. The
 /// totals are gone through in order.
-fn turn_total(cells: &Cells, turn: &Turn, k: usize, left: &mut Lefts, y: &mut [i128])
+fn turn_total(
+    cells: &Cells,
+    turn: &Turn,
+    k: usize,
+    left: &mut Lefts,
+    y: &mut [i128],
+) -> Result<(), Memory>
     requires place { k < length turn.now.totals.now }
     requires same { length turn.now.before.now ≡ length turn.now.totals.now }
     requires bounded { All (IsTotal turn.now.side) turn.now.totals.now }
     requires stands { (others : List ℤ) × StandsBy turn.now.side
         (turned k turn.now.totals.now turn.now.before.now) others cells.now.whos.items
         cells.now.slots.items y.old left.old.lacks.items left.old.rooms.items }
-    ensures stands { (others : List ℤ) → StandsBy turn.now.side
+    requires listed { ListsLacking left.old.lacks.items left.old.lacking.items }
+    ensures stands { OnOk result ((others : List ℤ) → StandsBy turn.now.side
         (turned k turn.now.totals.now turn.now.before.now) others cells.now.whos.items
         cells.now.slots.items y.old left.old.lacks.items left.old.rooms.items
         → StandsBy turn.now.side (turned (k + 1) turn.now.totals.now turn.now.before.now) others
         cells.now.whos.items cells.now.slots.items y.new left.new.lacks.items
-        left.new.rooms.items }
-    ensures others { (j : ℕ) → j ≢ k → amount_at
-        (of_side turn.now.side left.new.lacks.items left.new.rooms.items) j
-        ≡ amount_at (of_side turn.now.side left.old.lacks.items left.old.rooms.items) j }
-    ensures same { left.new.lacking.items ≡ left.old.lacking.items }
+        left.new.rooms.items) }
+    ensures listed { OnOk result (ListsLacking left.new.lacks.items left.new.lacking.items) }
 {
     let after = turn.totals[k];
     let before = turn.before[k];
-    turn.side.put(left, k, after - before);
-    lower_along(cells, turn.side, k, left, y);
+    turn.side.put(left, k, after - before)?;
+    lower_along(cells, turn.side, k, left, y)?;
+    Ok(())
 }
 
-/// Puts other capacities in place of those that amounts are within, and lowers the amounts on slots that then hold too much.
-pub(crate) fn turn_slots(
+/// Puts other totals of a side in place of those that amounts are within, and lowers the amounts that then are too much.
+pub(crate) fn turn_side(
     cells: &Cells,
-    capacities: &[i128],
-    before: &[i128],
-    left: &mut Lefts,
-    y: &mut [i128],
-)
-    requires same { length before.now ≡ length capacities.now }
-    requires bounded { All IsCapacity capacities.now }
-    requires stands { (d : List ℤ) × IsStanding d before.now cells.now.whos.items
-        cells.now.slots.items y.old left.old.lacks.items left.old.rooms.items }
-    ensures { (d : List ℤ) → IsStanding d before.now cells.now.whos.items cells.now.slots.items
-        y.old left.old.lacks.items left.old.rooms.items
-        → IsStanding d capacities.now cells.now.whos.items cells.now.slots.items y.new
-        left.new.lacks.items left.new.rooms.items }
-{
-    let turn = Turn {
-        side: Side::Slots,
-        totals: capacities,
-        before,
-    };
-    for s in 0..capacities.len() {
-        if capacities[s] != before[s] {
-            turn_total(cells, &turn, s, left, y);
-        }
-    }
-}
-
-/// Puts other demands in place of those that amounts are within, and lowers the amounts of demands that then get too much. Lists
-/// those that lack something.
-pub(crate) fn turn_demands(
-    cells: &Cells,
-    demands: &[i128],
-    before: &[i128],
+    turn: &Turn,
     left: &mut Lefts,
     y: &mut [i128],
 ) -> Result<(), Memory>
-    requires same { length before.now ≡ length demands.now }
-    requires asked { All IsAmount demands.now }
-    requires stands { (c : List ℤ) × IsStanding before.now c cells.now.whos.items
-        cells.now.slots.items y.old left.old.lacks.items left.old.rooms.items }
-    ensures stands { OnOk result ((c : List ℤ) → IsStanding before.now c cells.now.whos.items
-        cells.now.slots.items y.old left.old.lacks.items left.old.rooms.items
-        → IsStanding demands.now c cells.now.whos.items cells.now.slots.items y.new
-        left.new.lacks.items left.new.rooms.items) }
+    requires same { length turn.now.before.now ≡ length turn.now.totals.now }
+    requires bounded { All (IsTotal turn.now.side) turn.now.totals.now }
+    requires stands { (others : List ℤ) × StandsBy turn.now.side turn.now.before.now others
+        cells.now.whos.items cells.now.slots.items y.old left.old.lacks.items
+        left.old.rooms.items }
+    requires listed { ListsLacking left.old.lacks.items left.old.lacking.items }
+    ensures stands { OnOk result ((others : List ℤ) → StandsBy turn.now.side turn.now.before.now
+        others cells.now.whos.items cells.now.slots.items y.old left.old.lacks.items
+        left.old.rooms.items → StandsBy turn.now.side turn.now.totals.now others
+        cells.now.whos.items cells.now.slots.items y.new left.new.lacks.items
+        left.new.rooms.items) }
     ensures listed { OnOk result (ListsLacking left.new.lacks.items left.new.lacking.items) }
 {
-    let turn = Turn {
-        side: Side::Demands,
-        totals: demands,
-        before,
-    };
-    left.lacking.clear();
-    for i in 0..demands.len() {
-        if demands[i] != before[i] {
-            turn_total(cells, &turn, i, left, y);
-        }
-        if left.lacks[i] > 0 {
-            left.lacking.push(i)?;
+    let totals = turn.totals;
+    let before = turn.before;
+    for k in 0..totals.len() {
+        if totals[k] != before[k] {
+            turn_total(cells, turn, k, left, y)?;
         }
     }
     Ok(())

@@ -83,7 +83,7 @@ impl Search {
     {
         for k in 0..left.lacking.len() {
             let i = left.lacking[k];
-            if left.lacks[i] > 0 {
+            if left.lacks[i] > 0 && !is_found(&self.nodes, i) {
                 self.queue.push(i)?;
                 self.nodes[i] = Some(Node {
                     level: 0,

@@ -30,6 +30,7 @@ turn-requires c =
         lacks_are = told.lacks;
         rooms_are = rw told.rooms r.left;
       });
+      listed = told.listed;
     }
 
 pub raise_all-requires : goal.raise_all-requires

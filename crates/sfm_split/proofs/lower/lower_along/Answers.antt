@@ -1,4 +1,4 @@
-use Rattle.std.proofs.Common.{◌<◌, ℕ, length, get_or, ℤ, pos, refl, ◌∙◌, arith, rules, FitsSigned}
+use Rattle.std.proofs.Common.{◌<◌, ℕ, length, get_or, ℤ, pos, arith, rules, FitsSigned}
 use Rattle.std.proofs.lemmas.Int.{ints, by_lt_z, to_z-of_z}
 use mir.Syntax.{w128}
 use Rattle.sfm_split.specs.Cells.{label_at}
@@ -27,8 +27,7 @@ loop-e-init c =
       lowered = lowered_nowhere cells.whos.items cells.slots.items y left.lacks.items left.rooms.items;
       charged = c.requires.charged;
       passed = pass_begun c.list-e-items.result.now (IsSpent (of_side side left.lacks.items left.rooms.items) c.args.k y);
-      others = λ j ne. refl;
-      same = refl;
+      listed = c.requires.listed;
     }
 
 pub excess-over-requires : goal.excess-over-requires
@@ -59,7 +58,7 @@ loop-e-preserved c =
     let left = c.loop-e.left in
     let new = c.lower_on.new in
     let after = new.left in
-    let told = c.lower_on.ensures in
+    let told = c.in_ok-lower_on.ensures in
     let over : ℤ = c.excess-over.result in
     let fo : FitsSigned w128 over = search rules in
     let given = rw (to_z-of_z w128 over fo) at told.given in
@@ -71,8 +70,7 @@ loop-e-preserved c =
       passed = pass_more Spent inv.passed
           (λ f h. still_spent whos slots y left.lacks.items left.rooms.items new.y after.lacks.items after.rooms.items told.lowered side k f h)
           (λ less. by_lt_z (pos 0) (get_or new.y e (pos 0)) (λ some. let t = rw mine at (given (omega (arith, ints, some)) side) in absurd (omega (arith, ints, t, is, less))) (λ none. none));
-      others = λ j ne. told.others side j (λ q. ne (q ∙ mine)) ∙ inv.others j ne;
-      same = told.same ∙ inv.same;
+      listed = told.listed;
     }
 
 pub returns-clause-mended : goal.returns-clause-mended

@@ -1,10 +1,10 @@
-use Rattle.std.proofs.Common.{◌≡◌, ℕ, List, get_or, ℤ, pos, ◌-ℤ◌, ◌≤ℤ◌, ◌∙◌, arith, rules, FitsSigned}
+use Rattle.std.proofs.Common.{◌≡◌, ℕ, List, get_or, ℤ, pos, ◌-ℤ◌, ◌≤ℤ◌, arith, rules, FitsSigned}
 use Rattle.std.proofs.lemmas.Int.{ints, clamps, to_z-of_z}
 use Rattle.std.proofs.lemmas.List.{get_or_read}
 use mir.Syntax.{w128}
 use Rattle.sfm_split.specs.Cells.{label_at}
 use Rattle.sfm_split.specs.declared.lower.Side.TheVariants.{Demands, Slots}
-use Rattle.sfm_split.proofs.Lowering.{lowered_cell, side_give, given_back, others_stay}
+use Rattle.sfm_split.proofs.Lowering.{lowered_cell, side_give, given_back}
 use Rattle.sfm_split.proofs.lower.lower_on.Goals.{After-min-a}
 use Rattle.sfm_split.proofs.lower.lower_on.Goals as goal
 
@@ -52,42 +52,42 @@ take-requires-clause-enough c =
     let fa : FitsSigned w128 a = search rules in
     rw (to_z-of_z w128 a fa) h.most
 
-pub put-requires : goal.put-requires
-put-requires c =
-    let h = taken (goal.at.put-requires c).After-min-a in
+pub put-requires-clause-can : goal.put-requires-clause-can
+put-requires-clause-can c =
+    let h = taken (goal.at.put-requires-clause-can c).After-min-a in
     let left = c.args.left.now in
     let a : ℤ = c.min-a.result in
     let fa : FitsSigned w128 a = search rules in
     rw (h.who, to_z-of_z w128 a fa) (side_give c.args.cells.now.whos.items c.args.cells.now.slots.items c.args.y.now left.lacks.items left.rooms.items c.requires.charged c.args.e a c.requires.cell h.low h.most Demands)
 
-pub put-requires-2 : goal.put-requires-2
-put-requires-2 c =
-    let h = taken (goal.at.put-requires-2 c).After-min-a in
+pub put-requires-2-clause-can : goal.put-requires-2-clause-can
+put-requires-2-clause-can c =
+    let h = taken (goal.at.put-requires-2-clause-can c).After-min-a in
     let left = c.args.left.now in
     let a : ℤ = c.min-a.result in
     let fa : FitsSigned w128 a = search rules in
-    rw (c.put.ensures.rooms, h.slot, to_z-of_z w128 a fa) (side_give c.args.cells.now.whos.items c.args.cells.now.slots.items c.args.y.now left.lacks.items left.rooms.items c.requires.charged c.args.e a c.requires.cell h.low h.most Slots)
+    rw (c.in_ok-put.ensures.rooms, h.slot, to_z-of_z w128 a fa) (side_give c.args.cells.now.whos.items c.args.cells.now.slots.items c.args.y.now left.lacks.items left.rooms.items c.requires.charged c.args.e a c.requires.cell h.low h.most Slots)
 
-pub returns : goal.returns
-returns c =
-    let h = taken (goal.at.returns c).After-min-a in
-    let whos = c.args.cells.now.whos.items in
-    let slots = c.args.cells.now.slots.items in
-    let y = c.args.y.now in
+pub returns-clause-lowered : goal.returns-clause-lowered
+returns-clause-lowered c =
+    let h = taken (goal.at.returns-clause-lowered c).After-min-a in
     let left = c.args.left.now in
-    let lacks = left.lacks.items in
-    let rooms = left.rooms.items in
-    let e = c.args.e in
-    let lt = c.requires.cell in
     let a : ℤ = c.min-a.result in
     let fa : FitsSigned w128 a = search rules in
     let za = to_z-of_z w128 a fa in
     let ty = rw za at c.take.ensures in
-    let tl = rw (h.who, za) at c.put.ensures.lacks in
-    let tr = rw (c.put.ensures.rooms, h.slot, za) at c.put-2.ensures.rooms in
-    rw (ty, c.put-2.ensures.lacks, tl, tr) (record {
-      lowered = lowered_cell whos slots y lacks rooms e a lt h.low h.most;
-      given = given_back whos slots y lacks rooms c.requires.charged e a c.args.over lt h.all;
-      others = others_stay whos slots y lacks rooms e a;
-      same = c.put-2.ensures.same ∙ c.put.ensures.same;
-    })
+    let tl = rw (h.who, za) at c.in_ok-put.ensures.lacks in
+    let tr = rw (c.in_ok-put.ensures.rooms, h.slot, za) at c.in_ok-put-2.ensures.rooms in
+    rw (ty, c.in_ok-put-2.ensures.lacks, tl, tr) (lowered_cell c.args.cells.now.whos.items c.args.cells.now.slots.items c.args.y.now left.lacks.items left.rooms.items c.args.e a c.requires.cell h.low h.most)
+
+pub returns-clause-given : goal.returns-clause-given
+returns-clause-given c =
+    let h = taken (goal.at.returns-clause-given c).After-min-a in
+    let left = c.args.left.now in
+    let a : ℤ = c.min-a.result in
+    let fa : FitsSigned w128 a = search rules in
+    let za = to_z-of_z w128 a fa in
+    let ty = rw za at c.take.ensures in
+    let tl = rw (h.who, za) at c.in_ok-put.ensures.lacks in
+    let tr = rw (c.in_ok-put.ensures.rooms, h.slot, za) at c.in_ok-put-2.ensures.rooms in
+    rw (ty, c.in_ok-put-2.ensures.lacks, tl, tr) (given_back c.args.cells.now.whos.items c.args.cells.now.slots.items c.args.y.now left.lacks.items left.rooms.items c.requires.charged c.args.e a c.args.over c.requires.cell h.all)

@@ -1,4 +1,4 @@
-use Rattle.std.proofs.Common.{◌≡◌, List, get_or, ℤ, pos, ◌+ℤ◌, ◌-ℤ◌, ◌∙◌, rules, FitsSigned, length-set, get_or-set_other}
+use Rattle.std.proofs.Common.{◌≡◌, List, get_or, ℤ, pos, ◌+ℤ◌, ◌-ℤ◌, rules, FitsSigned, length-set}
 use Rattle.std.proofs.lemmas.Int.{to_z-of_z}
 use mir.Syntax.{w128}
 use Rattle.sfm_split.specs.Splits.{amount_at}
@@ -24,14 +24,14 @@ overflow_sub-after c =
     let fb : FitsSigned w128 (get_or c.args.turn.now.before.now c.args.k (pos 0)) = search rules in
     simp to_z-of_z (turns (goal.at.overflow_sub-after c).Start others h).can.fits
 
-pub put-requires : goal.put-requires
-put-requires c =
+pub put-requires-clause-can : goal.put-requires-clause-can
+put-requires-clause-can c =
     let (others, h) = c.requires.stands in
     let t : ℤ = get_or c.args.turn.now.totals.now c.args.k (pos 0) in
     let b : ℤ = get_or c.args.turn.now.before.now c.args.k (pos 0) in
     let ft : FitsSigned w128 t = search rules in
     let fb : FitsSigned w128 b = search rules in
-    let can = (turns (goal.at.put-requires c).Start others h).can in
+    let can = (turns (goal.at.put-requires-clause-can c).Start others h).can in
     let fd : FitsSigned w128 (t -ℤ b) = can.fits in
     simp to_z-of_z can.put
 
@@ -53,7 +53,7 @@ lower_along-requires c =
     let (others, h) = c.requires.stands in
     let r = turns path.Start others h in
     let (lacks_are, rooms_are) = left_are path.After-put r.can.fits in
-    rw (lacks_are, rooms_are) (record { place = rw (side_put turn.side left.lacks.items left.rooms.items c.args.k more, length-set own c.args.k (amount_at own c.args.k +ℤ more)) r.can.put.place; charged = r.charged })
+    rw (lacks_are, rooms_are) (record { place = rw (side_put turn.side left.lacks.items left.rooms.items c.args.k more, length-set own c.args.k (amount_at own c.args.k +ℤ more)) r.can.put.place; charged = r.charged; listed = rw lacks_are at c.in_ok-put.ensures.listed })
 
 pub returns-clause-stands : goal.returns-clause-stands
 returns-clause-stands c = λ others h.
@@ -61,15 +61,4 @@ returns-clause-stands c = λ others h.
     let new = c.lower_along.new in
     let r = turns path.Start others h in
     let (lacks_are, rooms_are) = left_are path.After-put r.can.fits in
-    r.stands new.y new.left.lacks.items new.left.rooms.items (rw (lacks_are, rooms_are) at c.lower_along.ensures.lowered) c.lower_along.ensures.mended
-
-pub returns-clause-others : goal.returns-clause-others
-returns-clause-others c = λ j ne.
-    let path = goal.at.returns-clause-others c in
-    let turn = c.args.turn.now in
-    let left = c.args.left.now in
-    let more : ℤ = amount_at turn.totals.now c.args.k -ℤ amount_at turn.before.now c.args.k in
-    let own = of_side turn.side left.lacks.items left.rooms.items in
-    let (others, h) = c.requires.stands in
-    let (lacks_are, rooms_are) = left_are path.After-put (turns path.Start others h).can.fits in
-    (rw (lacks_are, rooms_are, side_put turn.side left.lacks.items left.rooms.items c.args.k more) at c.lower_along.ensures.others j ne) ∙ get_or-set_other own c.args.k j (amount_at own c.args.k +ℤ more) (pos 0) ne
+    r.stands new.y new.left.lacks.items new.left.rooms.items (rw (lacks_are, rooms_are) at c.in_ok-lower_along.ensures.lowered) c.in_ok-lower_along.ensures.mended
