@@ -14,7 +14,8 @@ use crate::spread::Spread;
 use crate::told::Told;
 use sfm_base::{Memory, Set};
 use sfm_split::{
-    Aim, AssignEnd, Demand, Shares, Work, begin, find_amounts, left_of, met_shares, raise_most,
+    Aim, AssignEnd, Demand, Shares, Work, begin, copy_times, find_amounts, left_of, met_shares,
+    raise_most,
 };
 use std::alloc::Global;
 use std::mem;
@@ -109,6 +110,17 @@ impl Beside {
         })
     }
 
+    /// Forgets what was told of a split, as it changes.
+    fn forget(&mut self)
+        ensures same { length self.new.answers ≡ length self.old.answers }
+        ensures none { (u : ℕ) → answer_at self.new.answers u ≡ None }
+        ensures asking { self.new.asking ≡ self.old.asking }
+        ensures counted { self.new.counted ≡ false }
+    {
+        self.answers.forget(&mut self.search);
+        self.counted = false;
+    }
+
     /// Puts the amounts that were found, and what slots have left with these, in place of those of a split. What was told of it
     /// is forgotten.
     fn put(&mut self, y: &mut Vec<i128>, rooms: &mut Vec<i128>)
@@ -121,8 +133,7 @@ impl Beside {
     {
         mem::swap(y, &mut self.work.y);
         mem::swap(rooms, &mut self.work.left.rooms);
-        self.answers.forget(&mut self.search);
-        self.counted = false;
+        self.forget();
     }
 }
 
@@ -231,6 +242,28 @@ impl Kept {
         let demand = self.demand.times(alloc, m)?;
         let shares = self.shares.times(alloc, m)?;
         Kept::around(alloc, demand, shares)
+    }
+
+    /// Writes a split of m times the demands of another over the same lists, whose slots hold m times as much, in place of this one.
+    /// Each amount is m times what it is there; nothing is remembered. It takes no memory.
+    pub fn copy_times(&mut self, m: i128, from: &Kept)
+        requires low { pos 1 ≤ℤ m }
+        requires lists { self.old.demand.lists ≡ from.now.demand.lists }
+        requires slots { length self.old.demand.capacities ≡ length from.now.demand.capacities }
+        requires amounts { All IsAmount (map (λ a. m *ℤ a) from.now.demand.demands) }
+        requires bounded { All IsCapacity (map (λ a. m *ℤ a) from.now.demand.capacities) }
+        ensures { self.new.demand ≡ record {
+          demands = map (λ a. m *ℤ a) from.now.demand.demands;
+          lists = from.now.demand.lists;
+          capacities = map (λ a. m *ℤ a) from.now.demand.capacities;
+        } }
+    {
+        let _sound = self.demand.demands();
+        let _other = from.demand.demands();
+        copy_times(m, &from.shares.y, &mut self.shares.y);
+        copy_times(m, &from.rooms, &mut self.rooms);
+        self.demand.copy_times(m, &from.demand);
+        self.beside.forget();
     }
 
     /// Puts other demands and capacities in place of these, over the same lists, and splits them, from the split as it stands:

@@ -62,7 +62,7 @@ module _ {X N : Type 0} {T : Ghosts X N} {terms : List X} {n : ℕ} {q : ℤ} {g
 
   -- the lists that a graph has
   pub shaped : IsShaped T terms n graph
-  shaped = record { are_spots = h.are_spots; sized_rows = h.sized_rows; claim_count = h.claim_count; union_count = unions_count; back_count = h.are_turned.count }
+  shaped = record { are_spots = h.are_spots; sized_rows = h.sized_rows; claim_count = h.claim_count; note_count = h.note_count; noted = (q, graph.bases, h.noted); union_count = unions_count; back_count = h.are_turned.count }
 
   -- the same over as many places as the graph has spots for
   pub own : IsClaimed T terms (length graph.spots.items) q graph

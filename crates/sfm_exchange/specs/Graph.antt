@@ -64,10 +64,12 @@ pub record IsStill {X N : Type 0} (T : Ghosts X N) (terms : List X) (q : ℤ) (b
 
 -- the lists of a graph of the terms over n places, whatever its bases and its rows are: the spots of each place are those of
 -- the terms, there is a row for each place of each term, a set of claimed places for each term, and a set of the places that
--- arcs lead to for each place, and as many sets of those that arcs come from as places may be
+-- arcs lead to for each place, and as many sets of those that arcs come from as places may be; what is kept fits some bases
 pub record IsShaped {X N : Type 0} (T : Ghosts X N) (terms : List X) (n : ℕ) (graph : Graph N) : Type 0 where
   pub are_spots : AreSpots (meanings T.places T.value_of terms) n graph.spots.items
   pub sized_rows : AreSized (map T.places terms) graph.rows.items
   pub claim_count : length graph.claimed.items ≡ length terms
+  pub note_count : length graph.notes.items ≡ length terms
+  pub noted : (q : ℤ) × (bases : List (List ℤ)) × AreNotes (kept_fits T.fits) q terms graph.notes.items bases
   pub union_count : length graph.unions.items ≡ n
   pub back_count : length graph.back.items ≡ 256

@@ -108,13 +108,14 @@ pub(crate) fn blank_graph<T: Term>(
     let spots = spots_of(alloc, terms, n)?;
     let rows = blank_rows(alloc, terms)?;
     let claimed = blank_sets(alloc, terms.len())?;
+    let notes = no_notes(alloc, terms)?;
     let unions = blank_sets(alloc, n)?;
     let back = blank_sets(alloc, 256)?;
     Ok(Graph {
         bases: Rows::new(alloc),
         sums: Vec::new(alloc),
         spots,
-        notes: Vec::new(alloc),
+        notes,
         rows,
         claimed,
         unions,

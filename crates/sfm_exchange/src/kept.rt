@@ -1,5 +1,5 @@
 // The calls of a term by the note that is kept beside its base, or made now where none is, which is kept then.
-ghost use Rattle.std.specs.Prelude.{◌≡◌, length, pos, ◌*ℤ◌, ◌≤ℤ◌, IfOk, OnOk};
+ghost use Rattle.std.specs.Prelude.{◌≡◌, List, length, ℤ, pos, ◌*ℤ◌, ◌≤ℤ◌, IfOk, OnOk};
 ghost use Rattle.sfm_spec.specs.{Bounds.{IsFactor}, Terms.{exchanged, times}};
 ghost use Rattle.sfm_law.specs.{Based.{IsBased, IsPair, CanSwap}, Room.{IsCapacityUpto}};
 ghost use Rattle.sfm_reach.specs.{Based.{IsPlacedBase}, Reach.{kept_fits}};
@@ -58,26 +58,36 @@ pub(crate) fn move_kept<T: Term>(
     }
 }
 
-/// What is kept beside m times a base, made of what is kept beside the base; nothing where the term makes nothing of it.
+/// Makes what is kept beside m times a base of what is kept beside the base: in place of what was kept beside another base, and in
+/// the memory of that where the term can; nothing where the term makes nothing of it. After want of memory nothing is said of it.
 pub(crate) fn kept_times<T: Term>(
     alloc: Global,
     at: &Based<'_, '_, T>,
     m: i128,
     kept: &Option<T::Note>,
-) -> Result<Option<T::Note>, Memory>
+    to: &mut Option<T::Note>,
+) -> Result<(), Memory>
     requires times { IsFactor m }
     requires based { IsBased T.places T.value_of T.size_of at.now.term.now at.now.base.q
         at.now.base.x.now }
     requires multiple { IsBased T.places T.value_of T.size_of at.now.term.now
         (m *ℤ at.now.base.q) (row_times m at.now.base.x.now) }
     requires noted { kept_fits T.fits at.now.term.now kept.now at.now.base.q at.now.base.x.now }
-    ensures { IfOk result (λ r. kept_fits T.fits at.now.term.now r (m *ℤ at.now.base.q)
+    requires other { (q : ℤ) × (x : List ℤ) × kept_fits T.fits at.now.term.now to.old q x }
+    ensures { OnOk result (kept_fits T.fits at.now.term.now to.new (m *ℤ at.now.base.q)
         (row_times m at.now.base.x.now)) }
 {
-    match kept {
-        Some(note) => at.term.note_times(alloc, m, &at.base, note),
-        None => Ok(None),
+    let Some(note) = kept else {
+        *to = None;
+        return Ok(());
+    };
+    if let Some(over) = to {
+        if at.term.note_over(m, &at.base, note, over) {
+            return Ok(());
+        }
     }
+    *to = at.term.note_times(alloc, m, &at.base, note)?;
+    Ok(())
 }
 
 /// Brings the rows of a term up to the base that came by an exchange, as `renew_rows` does. After want of memory nothing is said of

@@ -55,31 +55,34 @@ pub struct Beside<'a, N> {
     pub q: i128,
 }
 
-// What another graph of the terms keeps beside its bases, for m times these. Where a term makes nothing of it, that is made once it
-// is wanted.
+// Makes what is kept beside some bases what another graph of the terms keeps, for m times its bases. Where a term makes nothing of
+// it, that is made once it is wanted.
 fn notes_times<T: Term>(
     alloc: Global,
     terms: &[T],
     m: i128,
     other: &Beside<'_, T::Note>,
-) -> Result<Vec<Option<T::Note>>, Memory>
+    notes: &mut Vec<Option<T::Note>>,
+) -> Result<(), Memory>
     requires times { IsFactor m }
     requires factor { IsFactor (m *ℤ other.now.q) }
     requires other { (n : ℕ) × IsClaimed T.Term terms.now n other.now.q other.now.graph.now }
     requires small { All (λ x. All (IsAtMost (10 ^ 21)) x) other.now.graph.now.bases }
-    ensures count { IfOk result (λ r. length r.items ≡ length terms.now) }
-    ensures noted { IfOk result (λ r. AreNotes (kept_fits T.fits) (m *ℤ other.now.q) terms.now
-        r.items (rows_times m other.now.graph.now.bases)) }
+    requires count { length notes.old.items ≡ length terms.now }
+    requires noted { (q : ℤ) × (bases : List (List ℤ)) × AreNotes (kept_fits T.fits) q terms.now
+        notes.old.items bases }
+    ensures count { OnOk result (length notes.new.items ≡ length terms.now) }
+    ensures noted { OnOk result (AreNotes (kept_fits T.fits) (m *ℤ other.now.q) terms.now
+        notes.new.items (rows_times m other.now.graph.now.bases)) }
 {
-    let mut notes = Vec::with_capacity(alloc, terms.len())?;
     for (i, term) in terms.iter().enumerate() {
         let x = other.graph.bases.row(i);
         let base = At { q: other.q, x };
         let at = Based { term, base };
         let kept = &other.graph.notes[i];
-        notes.push(kept_times(alloc, &at, m, kept)?)?;
+        kept_times(alloc, &at, m, kept, &mut notes[i])?;
     }
-    Ok(notes)
+    Ok(())
 }
 
 /// Makes the graph one of m times q times the terms, at m times the bases of a second graph, which is one of q times the terms and
@@ -108,7 +111,7 @@ pub fn restart_times<T: Term>(
 {
     graph.bases = other.graph.bases.times(alloc, m)?;
     graph.sums = multiply(alloc, m, &other.graph.sums)?;
-    graph.notes = notes_times(alloc, terms, m, other)?;
+    notes_times(alloc, terms, m, other, &mut graph.notes)?;
     take_rows(graph, other.graph);
     Ok(())
 }

@@ -387,4 +387,10 @@ impl Term for Graphic {
         let times = note.times(alloc, m)?;
         Ok(Some(times))
     }
+
+    /// The split that is kept, m times, with the same root, over another one.
+    fn note_over(&self, m: i128, _at: &At<'_>, note: &RootSplit, over: &mut RootSplit) -> bool {
+        over.copy_times(m, note);
+        true
+    }
 }

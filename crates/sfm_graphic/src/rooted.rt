@@ -2,7 +2,7 @@
 // root, so a split can be brought to another root from where it stands. What an edge may get is told with the root at an end of it;
 // and so it is of an edge that has room to another one, with the root at an end of that. A room leaves a spare split, from which an
 // exchange goes on.
-ghost use Rattle.std.specs.Prelude.{◌≡◌, IfOk};
+ghost use Rattle.std.specs.Prelude.{◌≡◌, length, IfOk};
 ghost use Rattle.sfm_matroid.specs.Notes.{AreBeside, CanMultiply, demands_times};
 
 use sfm_base::Memory;
@@ -46,5 +46,20 @@ impl RootSplit {
             root: self.root,
             spare_root: self.root,
         })
+    }
+
+    /// Writes another split over the same lists m times, with its root, in place of this one; the spare one stays.
+    pub(crate) fn copy_times(&mut self, m: i128, from: &RootSplit)
+        requires multiple { CanMultiply m from.now.pair.kept.demand }
+        requires lists { self.old.pair.kept.demand.lists ≡ from.now.pair.kept.demand.lists }
+        requires slots { length self.old.pair.kept.demand.capacities
+            ≡ length from.now.pair.kept.demand.capacities }
+        requires spare { AreBeside self.old.pair }
+        ensures kept { self.new.pair.kept.demand ≡ demands_times m from.now.pair.kept.demand }
+        ensures spare { AreBeside self.new.pair }
+        ensures root { self.new.root ≡ from.now.root }
+    {
+        self.pair.copy_times(m, &from.pair);
+        self.root = from.root;
     }
 }

@@ -348,4 +348,19 @@ impl Term for Kind {
             _ => Ok(None),
         }
     }
+
+    /// By the splits that `note_times` multiplies.
+    fn note_over(&self, m: i128, at: &At<'_>, note: &KindNote, over: &mut KindNote) -> bool {
+        if at.x.len() < FEWEST {
+            return false;
+        }
+        match (self, note, over) {
+            (Kind::Graphic(term), KindNote::Graphic(split), KindNote::Graphic(over)) => {
+                term.note_over(m, at, split, over)
+            }
+            (Kind::Transversal(term), KindNote::Transversal(split), KindNote::Transversal(over)) =>
+                term.note_over(m, at, split, over),
+            _ => false,
+        }
+    }
 }

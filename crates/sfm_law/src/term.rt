@@ -181,6 +181,21 @@ pub trait Term {
         Ok(None)
     }
 
+    /// Writes a note that fits m times a base, made as `note_times` makes one, over another note of the term, and so takes no memory;
+    /// or tells false where it writes none: nothing is said of that other note then.
+    fn note_over(&self, _m: i128, _at: &At<'_>, _note: &Self::Note, _over: &mut Self::Note) -> bool
+        requires times { IsFactor _m }
+        requires based { IsBased places value_of size_of self.now _at.now.q _at.now.x.now }
+        requires multiple { IsBased places value_of size_of self.now (_m *ℤ _at.now.q)
+            (map (λ a. _m *ℤ a) _at.now.x.now) }
+        requires noted { fits self.now _note.now _at.now.q _at.now.x.now }
+        requires other { (q : ℤ) × (x : List ℤ) × fits self.now _over.old q x }
+        ensures { IsTrue result → fits self.now _over.new (_m *ℤ _at.now.q)
+            (map (λ a. _m *ℤ a) _at.now.x.now) }
+    {
+        false
+    }
+
     /// The empty and the whole part are allowed, and unions and intersections of allowed parts are.
     ghost family: { (term : Self) → IsFamily (length (places term)) (value_of term) };
 

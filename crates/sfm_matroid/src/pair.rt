@@ -1,7 +1,7 @@
 // A split that is kept, and a spare one over the same lists. A room is told in the spare one, which is left near the demands of an
 // exchange that may come: that takes it in place of the one that is kept, which is the spare one then, and the next room uses its
 // memory.
-ghost use Rattle.std.specs.Prelude.{◌≡◌, IfOk, OnOk, Some};
+ghost use Rattle.std.specs.Prelude.{◌≡◌, length, IfOk, OnOk, Some};
 ghost use Rattle.sfm_assign.specs.{Lenders.{IsMostUpto}, declared.kept.Kept.{Kept}};
 ghost use Rattle.sfm_matroid.specs.{Amounts.{IsRaise, IsBeside, CanHold, rest_of}, Notes.{AreBeside, CanMultiply, demands_times}};
 
@@ -51,6 +51,21 @@ impl SplitPair {
     {
         let kept = self.kept.times(alloc, m)?;
         Ok(SplitPair { kept, spare: None })
+    }
+
+    /// Writes the split that another pair over the same lists keeps, m times, in place of the one that is kept; the spare one stays.
+    pub fn copy_times(&mut self, m: i128, from: &SplitPair)
+        requires multiple { CanMultiply m from.now.kept.demand }
+        requires lists { self.old.kept.demand.lists ≡ from.now.kept.demand.lists }
+        requires slots { length self.old.kept.demand.capacities
+            ≡ length from.now.kept.demand.capacities }
+        requires spare { AreBeside self.old }
+        ensures kept { self.new.kept.demand ≡ demands_times m from.now.kept.demand }
+        ensures spare { AreBeside self.new }
+    {
+        let _sound = self.kept.demand.demands();
+        let _other = from.kept.demand.demands();
+        self.kept.copy_times(m, &from.kept);
     }
 
     /// Keeps the spare split, if there is one, in place of the one that is kept, which is the spare one then.

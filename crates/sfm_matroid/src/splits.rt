@@ -42,6 +42,24 @@ impl SlotSplit {
         let capacities = Vec::from_slice(alloc, pair.kept.demand.capacities())?;
         Ok(SlotSplit { pair, capacities })
     }
+
+    /// Writes another split over the same lists and as many slots m times in place of this one; the spare one stays.
+    pub(crate) fn copy_times(&mut self, m: i128, from: &SlotSplit)
+        requires multiple { CanMultiply m from.now.pair.kept.demand }
+        requires lists { self.old.pair.kept.demand.lists ≡ from.now.pair.kept.demand.lists }
+        requires slots { length self.old.pair.kept.demand.capacities
+            ≡ length from.now.pair.kept.demand.capacities }
+        requires holds { length self.old.capacities.items
+            ≡ length from.now.pair.kept.demand.capacities }
+        requires spare { AreBeside self.old.pair }
+        ensures kept { self.new.pair.kept.demand ≡ demands_times m from.now.pair.kept.demand }
+        ensures spare { AreBeside self.new.pair }
+        ensures holds { self.new.capacities.items ≡ self.new.pair.kept.demand.capacities }
+    {
+        self.pair.copy_times(m, &from.pair);
+        self.capacities
+            .copy_from_slice(self.pair.kept.demand.capacities());
+    }
 }
 
 /// The split of demands; None where they cannot be met.

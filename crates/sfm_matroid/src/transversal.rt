@@ -285,4 +285,13 @@ impl Term for Transversal {
         let times = note.times(alloc, m)?;
         Ok(Some(times))
     }
+
+    /// The split that is kept, m times, over another one with as many slots.
+    fn note_over(&self, m: i128, _at: &At<'_>, note: &SlotSplit, over: &mut SlotSplit) -> bool {
+        if over.capacities.len() != note.capacities.len() {
+            return false;
+        }
+        over.copy_times(m, note);
+        true
+    }
 }

@@ -1,4 +1,4 @@
--- Demands, capacities and the amounts on the cells, each m times as much: what was met is met still.
+-- Demands, capacities and the amounts on the cells, each m times as much: what was met is met still, and m times as much is left.
 use Rattle.std.proofs.Common.{◌≡◌, ℕ, ◌<◌, Bool, true, false, List, [], ◌∷◌, length, get_or, map, nat_eq, ℤ, pos, ◌+ℤ◌, ◌*ℤ◌, ◌≤ℤ◌, if◌then◌else◌, refl, sym, ap, ◌∙◌, arith}
 use Rattle.std.specs.List.{All}
 use Rattle.std.proofs.Math.IntN.{*ℤ-zero}
@@ -7,9 +7,10 @@ use Rattle.std.proofs.lemmas.Int.{ints}
 use Rattle.std.proofs.lemmas.List.{length-map}
 use Rattle.std.proofs.lemmas.List.Elements.{All-get_or, All-from_get_or}
 use Rattle.sfm_spec.proofs.Scaled.{times-add, times-mono}
-use Rattle.sfm_split.specs.Splits.{sum_at, amount_at, Demands, IsAmount, AreDemands}
+use Rattle.sfm_split.specs.Splits.{sum_at, amount_at, Demands, IsAmount, IsCapacity, AreDemands}
 use Rattle.sfm_split.specs.Cells.{label_at, AreMet}
-use Rattle.sfm_split.proofs.Amounts.{sum_at-holds}
+use Rattle.sfm_split.specs.Search.{AreLeft}
+use Rattle.sfm_split.proofs.Amounts.{sum_at-low, sum_at-holds}
 use Rattle.sfm_split.proofs.Outcomes.{cells_for}
 
 module _ (m : ℤ) where
@@ -32,6 +33,17 @@ module _ (m : ℤ) where
       ap (λ z. z +ℤ sum_at k js (scaled y)) (if-times (nat_eq j k) a)
       ∙ ap (λ z. (m *ℤ (if nat_eq j k then a else pos 0)) +ℤ z) (sum_at-times k js y)
       ∙ sym (times-add m (if nat_eq j k then a else pos 0) (sum_at k js y))
+
+  -- what is left is multiplied with its totals and amounts
+  pub left_times : (totals : List ℤ) (labels : List ℕ) (y left : List ℤ) → AreLeft totals labels y left → AreLeft (scaled totals) labels (scaled y) (scaled left)
+  left_times totals labels y left h = record {
+    places = length-map left (λ a. m *ℤ a) ∙ (h.places ∙ sym (length-map totals (λ a. m *ℤ a)));
+    each = λ k lt.
+        let e = h.each k (rw (length-map totals (λ a. m *ℤ a)) at lt) in
+        let whole : amount_at totals k ≡ (amount_at left k +ℤ sum_at k labels y) = omega (arith, ints, e) in
+        let parts = ap (λ a. m *ℤ a) whole ∙ times-add m (amount_at left k) (sum_at k labels y) in
+        rw (amount_at-times left k, amount_at-times totals k, sum_at-times k labels y) (omega (arith, ints, parts));
+  }
 
   module _ (low : pos 1 ≤ℤ m) (d : Demands) (whos slots : List ℕ) (y : List ℤ) (met : AreMet d whos slots y) where
     not_less : (a b : ℤ) → a ≤ℤ b → (m *ℤ a) ≤ℤ (m *ℤ b)
@@ -70,3 +82,19 @@ module _ (m : ℤ) where
           let is = amount_at-times d.demands (label_at whos e) in
           let high = ask.high in
           rw (amount_at-times y e) (record { low = not_negative (amount_at y e) (met.part.amounts e); high = omega (arith, ints, most, is, high) })
+
+    -- m times what a slot has left is at most m times its capacity
+    pub rooms_times : (rooms : List ℤ) → AreLeft d.capacities slots y rooms → All IsCapacity (scaled d.capacities) → All IsAmount (scaled rooms)
+    rooms_times rooms left fit = All-from_get_or IsAmount (scaled rooms) (pos 0) (λ s lt. fits s (rw (length-map rooms (λ a. m *ℤ a)) at lt)) where
+      fits : (s : ℕ) → s < length rooms → IsAmount (amount_at (scaled rooms) s)
+      fits s lt =
+          let places = left.places in
+          let ls : s < length d.capacities = omega (arith, lt, places) in
+          let e = left.each s ls in
+          let within = met.part.within s ls in
+          let some = sum_at-low s slots y met.part.amounts in
+          let most = not_less (amount_at rooms s) (amount_at d.capacities s) (omega (arith, ints, e, some)) in
+          let most_holds : IsCapacity (amount_at (scaled d.capacities) s) = All-get_or IsCapacity (scaled d.capacities) s (pos 0) (rw (length-map d.capacities (λ a. m *ℤ a)) ls) fit in
+          let is = amount_at-times d.capacities s in
+          let high = most_holds.high in
+          rw (amount_at-times rooms s) (record { low = not_negative (amount_at rooms s) (omega (arith, ints, e, within)); high = omega (arith, ints, most, is, high) })

@@ -2,7 +2,7 @@
 ghost use Rattle.std.specs.{Prelude.{◌≡◌, ◌<◌, ◌≤◌, ◌^◌, [], ◌∷◌, ◌++◌, length, map, is_ok, slice_set, ◌+ℤ◌, ◌*ℤ◌, IfOk, if◌then◌else◌}, List.{All}};
 ghost use Rattle.sfm_split.specs.Splits.{amount_at, IsAmount, IsCapacity, AreDemands};
 
-use crate::multiples::list_times;
+use crate::multiples::{copy_times, list_times};
 use sfm_base::{Lists, Memory};
 use std::alloc::Global;
 use std::marker::Model;
@@ -151,6 +151,23 @@ impl Demand {
             lists: self.lists.copy(alloc)?,
             capacities: list_times(alloc, m, &self.capacities)?,
         })
+    }
+
+    /// Writes demands that are m times those of another, and capacities that are m times its capacities, in place of these, over the
+    /// same lists.
+    pub fn copy_times(&mut self, m: i128, from: &Demand)
+        requires places { length self.old.demands ≡ length from.now.demands }
+        requires slots { length self.old.capacities ≡ length from.now.capacities }
+        requires amounts { All IsAmount (map (λ a. m *ℤ a) from.now.demands) }
+        requires bounded { All IsCapacity (map (λ a. m *ℤ a) from.now.capacities) }
+        ensures { self.new ≡ record {
+          demands = map (λ a. m *ℤ a) from.now.demands;
+          lists = self.old.lists;
+          capacities = map (λ a. m *ℤ a) from.now.capacities;
+        } }
+    {
+        copy_times(m, &from.demands, &mut self.demands);
+        copy_times(m, &from.capacities, &mut self.capacities);
     }
 
     /// Writes other demands and other capacities in place of these, over the same lists.

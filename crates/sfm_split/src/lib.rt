@@ -26,6 +26,7 @@ pub use demand::Demand;
 pub use groups::Groups;
 pub use grown::raise_most;
 pub use left::{Lefts, left_of};
+pub use multiples::copy_times;
 pub use nodes::Link;
 pub use shared::SharedCells;
 pub use split::Split;

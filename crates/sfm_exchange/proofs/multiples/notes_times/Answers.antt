@@ -12,7 +12,7 @@ use Rattle.sfm_reach.specs.Reach.{kept_fits}
 use Rattle.sfm_reach.proofs.Basing.{is_based, size_low}
 use Rattle.sfm_exchange.specs.Scaled.{row_times, rows_times}
 use Rattle.sfm_exchange.proofs.ClaimedGraphs.{base_count}
-use Rattle.sfm_exchange.proofs.Notes.{notes_more}
+use Rattle.sfm_exchange.proofs.Notes.{notes_begun, notes_more, notes_done}
 use Rattle.sfm_exchange.proofs.Scaling.{bases-times}
 use Rattle.sfm_exchange.proofs.Summing.{entries_small, rows_small}
 use Rattle.sfm_exchange.proofs.multiples.notes_times.Given as given
@@ -20,7 +20,7 @@ use Rattle.sfm_exchange.proofs.multiples.notes_times.Goals as goal
 use Rattle.sfm_exchange.proofs.multiples.notes_times.Goals.{After-row-x}
 
 pub loop-i-init : goal.loop-i-init
-loop-i-init g c = record { count = search rules; fit = λ i l. absurd (omega (arith, l)) }
+loop-i-init g c = let (p, bases, h) = c.requires.noted in notes_begun p bases c.requires.count h
 
 pub row-x-requires : goal.row-x-requires
 row-x-requires g c = rw (base_count c.requires.other.1) c.loop-i-test.true
@@ -82,6 +82,12 @@ kept_times-requires-clause-noted g c =
     let fo : FitsSigned w128 c.args.other.now.q = factor_fits c.args.other.now.q c.requires.other.1.factor in
     rw c.row-x.ensures (simp to_z-of_z fit)
 
+pub index_mut-requires : goal.index_mut-requires
+index_mut-requires g c = omega (arith, c.loop-i-test.true, c.loop-i.invariant.count, c.loop-i.notes.ok.0)
+
+pub kept_times-requires-clause-other : goal.kept_times-requires-clause-other
+kept_times-requires-clause-other g c = c.loop-i.invariant.other c.loop-i.i (omega arith) c.loop-i-test.true c.index-terms-i.result c.index-terms-i.is c.index_mut.result.now c.index_mut.ensures.value
+
 pub loop-i-preserved : goal.loop-i-preserved
 loop-i-preserved g c =
     let fo : FitsSigned w128 c.args.other.now.q = factor_fits c.args.other.now.q c.requires.other.1.factor in
@@ -89,12 +95,12 @@ loop-i-preserved g c =
     let at = (goal.at.loop-i-preserved g c).After-row-x in
     let fit = rw (c.row-x.ensures, ← multiplied g at) at (simp to_z-of_z at c.in_ok-kept_times.ensures) in
     let so_far = simp to_z-of_z at c.loop-i.invariant in
-    rw c.in_ok-push.ensures.items (simp to_z-of_z (notes_more so_far c.loop-i-test.true c.index-terms-i.result c.index-terms-i.is c.in_ok-kept_times.field-0 fit))
+    simp to_z-of_z (notes_more so_far c.loop-i-test.true c.index-terms-i.result c.index-terms-i.is c.kept_times.new.to fit)
 
 pub returns-clause-count : goal.returns-clause-count
-returns-clause-count g c = c.loop-i.invariant.count ∙ omega (arith, c.loop-i.auto.i-end, c.loop-i-test.false)
+returns-clause-count g c = c.loop-i.invariant.count
 
 pub returns-clause-noted : goal.returns-clause-noted
 returns-clause-noted g c =
     let fm : FitsSigned w128 c.args.m = c.ranges.m in
-    λ i l. (simp to_z-of_z at c.loop-i.invariant).fit i (omega (arith, l, c.loop-i-test.false))
+    notes_done (simp to_z-of_z at c.loop-i.invariant) c.loop-i-test.false

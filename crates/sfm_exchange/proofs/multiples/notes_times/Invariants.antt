@@ -1,4 +1,4 @@
--- there is a note for each of the first terms, which fits
+-- the notes of the first terms fit, and the others are as they were
 use Rattle.std.proofs.Common.{◌*ℤ◌}
 use Rattle.sfm_reach.specs.Reach.{kept_fits}
 use Rattle.sfm_exchange.specs.Scaled.{rows_times}

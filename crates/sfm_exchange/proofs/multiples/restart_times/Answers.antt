@@ -54,9 +54,9 @@ returns-clause-graph g c =
       bounded = o.bounded;
       factor = r.factor;
       are_bases = rw is are;
-      note_count = rw taken.notes c.in_ok-graph-3.ensures.count;
+      note_count = rw taken.notes c.in_ok-notes_times.ensures.count;
       claim_count = rw taken.claimed o.claim_count;
-      noted = rw (is, taken.notes) (simp to_z-of_z at c.in_ok-graph-3.ensures.noted);
+      noted = rw (is, taken.notes) (simp to_z-of_z at c.in_ok-notes_times.ensures.noted);
       sized_rows = rw taken.rows o.sized_rows;
       claims = λ i l. rw (is, taken.claimed, taken.rows)
           (claims_times _ _ _ _ other.bases bases other.claimed.items other.rows.items o.factor.low r.times.low r.factor.low fit o.are_bases are i (rw (counted o) l) (same i (rw (base_count o) l)) (o.claims i l));

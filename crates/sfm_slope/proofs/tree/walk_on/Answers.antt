@@ -73,7 +73,7 @@ returns-clause-search g c =
       first = c.requires.search.first;
       begins = c.requires.search.begins;
       warm = c.requires.search.warm;
-      cold = record { are_spots = s.are_spots; sized_rows = s.sized_rows; claim_count = s.claim_count; union_count = s.union_count; back_count = s.back_count };
+      cold = record { are_spots = s.are_spots; sized_rows = s.sized_rows; claim_count = s.claim_count; note_count = s.note_count; noted = s.noted; union_count = s.union_count; back_count = s.back_count };
       shift = c.set_shift.ensures.places;
     }
 
