@@ -8,7 +8,7 @@ use Rattle.std.proofs.lemmas.List.{get_or_past}
 use Rattle.std.proofs.lemmas.List.FromFn.{get_or-map-range_with_len, length-map-range_with_len}
 use Rattle.sfm_law.specs.declared.term.Term.{Ghosts}
 use Rattle.sfm_spec.specs.Sets.{Has, complement}
-use Rattle.sfm_spec.specs.Terms.{SetFunction, IsFamily, IsSubmodular}
+use Rattle.sfm_spec.specs.Terms.{IsFamily, IsSubmodular}
 use Rattle.sfm_spec.specs.Families.{Meaning, meanings, AreTerms, AreBases, IsLeast, IsGreatest, IsMinimiser, IsSigned, Prove, rest_at}
 use Rattle.sfm_spec.specs.Reach.{IsClosed, IsReachedSet, IsUnder}
 use Rattle.sfm_spec.specs.Walks.{Step, IsOver, Joins}

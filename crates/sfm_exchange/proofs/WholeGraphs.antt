@@ -1,7 +1,7 @@
 -- The graph whose rows are true: what holds of it where some may be claimed.
 use Rattle.std.proofs.Common.{◌≡◌, ℕ, List, length, ℤ, pos, ◌≤ℤ◌}
 use Rattle.sfm_law.specs.declared.term.Term.{Ghosts}
-use Rattle.sfm_spec.specs.Terms.{SetFunction, IsFamily, IsSubmodular}
+use Rattle.sfm_spec.specs.Terms.{IsFamily, IsSubmodular}
 use Rattle.sfm_spec.specs.Families.{meanings, AreTerms}
 use Rattle.sfm_exchange.specs.declared.graph.Graph.{Graph}
 use Rattle.sfm_exchange.specs.Graph.{IsWhole}

@@ -1,4 +1,4 @@
-use Rattle.std.proofs.Common.{◌≡◌, ◌<◌, ℕ, ℤ, List, [], length, get_or, ◌*ℤ◌, ap, ◌∙◌, rules, arith, FitsSigned}
+use Rattle.std.proofs.Common.{◌≡◌, ◌<◌, ℤ, List, [], length, ◌*ℤ◌, arith, FitsSigned}
 use Rattle.std.specs.List.{All}
 use Rattle.std.proofs.lemmas.Int.{ints, to_z-of_z}
 use Rattle.std.proofs.lemmas.List.{get_or-map, length-map}

@@ -1,4 +1,4 @@
-use Rattle.std.proofs.Common.{length, ap, ◌∙◌, arith, refl}
+use Rattle.std.proofs.Common.{length, ap, ◌∙◌, arith}
 use Rattle.sfm_exchange.proofs.multiples.take_rows.Goals as goal
 
 pub copy_tables-requires : goal.copy_tables-requires

@@ -1,9 +1,9 @@
-use Rattle.std.proofs.Common.{◌≡◌, ◌<◌, ◌*◌, ◌^◌, length, get_or, replicate, map, ℤ, pos, ◌-ℤ◌, rules, ap, ◌∙◌, arith}
+use Rattle.std.proofs.Common.{◌≡◌, length, get_or, replicate, pos, rules, ap, ◌∙◌, arith}
 use Rattle.std.proofs.lemmas.Int.{ints}
 use Rattle.std.proofs.lemmas.List.{length-replicate, get_or-replicate}
 use Rattle.std.proofs.lemmas.Result.{IfOk-weaker}
 use Rattle.sfm_spec.specs.Bounds.{IsEntry}
-use Rattle.sfm_spec.specs.Families.{meanings, base_sum_at}
+use Rattle.sfm_spec.specs.Families.{meanings}
 use Rattle.sfm_spec.proofs.Walks.{bases-at}
 use Rattle.sfm_law.specs.Rest.{IsRest}
 use Rattle.sfm_law.proofs.Lists.{length-bases, length-meanings}
