@@ -7,140 +7,101 @@ fn asks_for<'a>(alloc: Global, words: &'a [&'a str], wanted: Result<Command<'a>,
     read_command(alloc, words) == wanted
 }
 
-/// Words, and the command that they ask for.
-const COMMANDS: [(&[&str], Command); 29] = [
-    (
-        &["ask", "first", "second"],
-        Command::Ask {
-            file: "first",
-            pins: "second",
-        },
-    ),
-    (
-        &["ask", "--", "-first", "ask"],
-        Command::Ask {
-            file: "-first",
-            pins: "ask",
-        },
-    ),
-    (&["solve", "first"], Command::Solve { file: "first" }),
-    (&["solve", "-"], Command::Solve { file: "-" }),
-    (
-        &["solve", "--", "-first"],
-        Command::Solve { file: "-first" },
-    ),
-    (&["solve", "--", "--"], Command::Solve { file: "--" }),
-    (&["solve", "first", "--"], Command::Solve { file: "first" }),
-    (
-        &["check", "first", "second"],
-        Command::Check {
-            file: "first",
-            answer: "second",
-        },
-    ),
-    (
-        &["check", "first", "first"],
-        Command::Check {
-            file: "first",
-            answer: "first",
-        },
-    ),
-    (
-        &["check", "solve", "check"],
-        Command::Check {
-            file: "solve",
-            answer: "check",
-        },
-    ),
+/// The command of a name and of files; nothing where it has none.
+fn command_of<'a>(name: &str, files: &[&'a str]) -> Option<Command<'a>> {
+    match (name, files) {
+        ("solve", [file]) => Some(Command::Solve { file }),
+        ("check", [file, answer]) => Some(Command::Check { file, answer }),
+        ("ask", [file, pins]) => Some(Command::Ask { file, pins }),
+        ("weigh", [file, sizes]) => Some(Command::Weigh { file, sizes }),
+        ("weighed", [file, sizes, answer]) => Some(Command::Weighed {
+            file,
+            sizes,
+            answer,
+        }),
+        ("meet", [left, right]) => Some(Command::Meet { left, right }),
+        ("met", [left, right, answer]) => Some(Command::Met {
+            left,
+            right,
+            answer,
+        }),
+        _ => None,
+    }
+}
+
+/// Words, the first of which names the command that they ask for, and its files.
+const OF_FILES: [(&[&str], &[&str]); 20] = [
+    (&["ask", "first", "second"], &["first", "second"]),
+    (&["ask", "--", "-first", "ask"], &["-first", "ask"]),
+    (&["solve", "first"], &["first"]),
+    (&["solve", "-"], &["-"]),
+    (&["solve", "--", "-first"], &["-first"]),
+    (&["solve", "--", "--"], &["--"]),
+    (&["solve", "first", "--"], &["first"]),
+    (&["check", "first", "second"], &["first", "second"]),
+    (&["check", "first", "first"], &["first", "first"]),
+    (&["check", "solve", "check"], &["solve", "check"]),
     (
         &["check", "--", "-first", "-second"],
-        Command::Check {
-            file: "-first",
-            answer: "-second",
-        },
+        &["-first", "-second"],
     ),
-    (
-        &["check", "first", "--", "-second"],
-        Command::Check {
-            file: "first",
-            answer: "-second",
-        },
-    ),
-    (
-        &["check", "first", "second", "--"],
-        Command::Check {
-            file: "first",
-            answer: "second",
-        },
-    ),
-    (&["demo", "0"], Command::Demo { seed: 0 }),
-    (&["demo", "7"], Command::Demo { seed: 7 }),
-    (&["demo", "007"], Command::Demo { seed: 7 }),
-    (&["demo", "999999999"], Command::Demo { seed: 999_999_999 }),
-    (&["demo", "000000000"], Command::Demo { seed: 0 }),
-    (&["demo", "0000000001"], Command::Demo { seed: 1 }),
-    (&["demo", "+1"], Command::Demo { seed: 1 }),
-    (&["demo", "--", "12"], Command::Demo { seed: 12 }),
-    (&["demo", "12", "--"], Command::Demo { seed: 12 }),
-    (
-        &["weigh", "first", "second"],
-        Command::Weigh {
-            file: "first",
-            sizes: "second",
-        },
-    ),
+    (&["check", "first", "--", "-second"], &["first", "-second"]),
+    (&["check", "first", "second", "--"], &["first", "second"]),
+    (&["weigh", "first", "second"], &["first", "second"]),
     (
         &["weigh", "--", "-first", "-second"],
-        Command::Weigh {
-            file: "-first",
-            sizes: "-second",
-        },
+        &["-first", "-second"],
     ),
     (
         &["weighed", "first", "second", "third"],
-        Command::Weighed {
-            file: "first",
-            sizes: "second",
-            answer: "third",
-        },
+        &["first", "second", "third"],
     ),
     (
         &["weighed", "weigh", "--", "-second", "-third"],
-        Command::Weighed {
-            file: "weigh",
-            sizes: "-second",
-            answer: "-third",
-        },
+        &["weigh", "-second", "-third"],
     ),
     (
         &["weighed", "first", "second", "third", "--"],
-        Command::Weighed {
-            file: "first",
-            sizes: "second",
-            answer: "third",
-        },
+        &["first", "second", "third"],
     ),
-    (
-        &["meet", "first", "second"],
-        Command::Meet {
-            left: "first",
-            right: "second",
-        },
-    ),
+    (&["meet", "first", "second"], &["first", "second"]),
     (
         &["met", "first", "--", "-second", "third"],
-        Command::Met {
-            left: "first",
-            right: "-second",
-            answer: "third",
-        },
+        &["first", "-second", "third"],
     ),
+];
+
+/// Whether words ask for the command of their first one and these files.
+fn asks_of<'a>(alloc: Global, words: &'a [&'a str], files: &[&'a str]) -> bool {
+    let [name, ..] = words else {
+        return false;
+    };
+    match command_of(name, files) {
+        Some(command) => asks_for(alloc, words, Ok(command)),
+        None => false,
+    }
+}
+
+/// Words that ask for a demonstration, and its seed.
+const SEEDS: [(&[&str], u64); 9] = [
+    (&["demo", "0"], 0),
+    (&["demo", "7"], 7),
+    (&["demo", "007"], 7),
+    (&["demo", "999999999"], 999_999_999),
+    (&["demo", "000000000"], 0),
+    (&["demo", "0000000001"], 1),
+    (&["demo", "+1"], 1),
+    (&["demo", "--", "12"], 12),
+    (&["demo", "12", "--"], 12),
 ];
 
 #[test]
 fn reads_the_words_of_a_command(rt: HostRuntime) {
-    for (words, command) in &COMMANDS {
-        assert!(rt; asks_for(rt.alloc(), words, Ok(*command)));
+    for (words, files) in &OF_FILES {
+        assert!(rt; asks_of(rt.alloc(), words, files));
+    }
+    for (words, seed) in &SEEDS {
+        assert!(rt; asks_for(rt.alloc(), words, Ok(Command::Demo { seed: *seed })));
     }
 }
 
