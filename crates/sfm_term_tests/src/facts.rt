@@ -15,15 +15,13 @@
 //
 // A row costs no proof, since the functions that read and try it are proved for every table. They answer yes or no.
 use crate::numbers::numbers_of;
-use crate::trial::{
-    has_places, has_reach, has_room, has_size, has_times, has_values, is_no_base, part, starts,
-};
+use crate::trial::{has_places, has_reach, has_room, has_size, has_times, is_no_base};
 use crate::{concave, graphs, laminar, simple, slots};
 use sfm_base::Set;
 use sfm_kind::Kind;
 use sfm_law::{At, Term};
 use sfm_text::read_pieces;
-use sfm_trial::is_base;
+use sfm_trial::{has_values, is_base, part, starts};
 use std::alloc::Global;
 use std::process::Abort;
 

@@ -1,12 +1,11 @@
 // Two instances made by calls, with answers worked by hand.
 ghost use Rattle.std.specs.Prelude.{◌<◌, ◌^◌, ◌≤ℤ◌, pos};
 
-use crate::numbers::NO;
-use crate::trial::value_at;
 use sfm_base::Memory;
 use sfm_kind::{Instance, Kind, is_name};
 use sfm_law::Term;
 use sfm_simple::{Cut, Need, Weight};
+use sfm_trial::{NO, value_at};
 use std::alloc::Global;
 
 const MOST_SIZE: i128 = 1_000_000_000_000_000_000;

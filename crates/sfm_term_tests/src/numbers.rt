@@ -1,9 +1,7 @@
 // Numbers in the text of a table, in which blanks stand between them.
 use sfm_base::read_number;
+use sfm_trial::NO;
 use std::alloc::Global;
-
-/// What `no` stands for: a part that is not allowed, or a room without a bound.
-pub(crate) const NO: i128 = i128::MAX;
 
 /// The number of a word, or nothing where it is none.
 fn number_of(word: &str) -> Option<i128> {

@@ -1,32 +1,16 @@
-// What a term is asked for in a test: its values, its first base, the rooms and the reach of places at a base, and that notes tell
-// the same, at the base and after an exchange. Each is asked by a function that answers yes or no, and no where memory lacks. Parts
-// are told by their numbers, place j counting 2^j.
+// What a term is asked for in a test: its places and its size, the rooms and the reach of places at a base, and that notes tell the
+// same, at the base and after an exchange. Each is asked by a function that answers yes or no, and no where memory lacks.
 ghost use Rattle.std.specs.{Prelude.{◌≡◌, ◌↔◌, ◌<◌, ◌^◌, ◌*ℤ◌, ◌≤ℤ◌, ◌∷◌, [], length, map, pos, IsTrue, IfOk, IfSome}, List.{All}};
 ghost use Rattle.sfm_spec.specs.{Bounds.{IsAtMost, IsFactor}, Terms.{times, exchanged}};
 ghost use Rattle.sfm_law.specs.Based.{IsBased, IsPair, CanSwap};
 
-use crate::numbers::{NO, count_at};
-use sfm_base::{Memory, Rows, Set};
+use crate::numbers::count_at;
+use sfm_base::{Memory, Rows};
 use sfm_law::{At, Room, Swap, Term, exchange};
 use sfm_trial::{
-    MOST_ENTRY, is_base, is_factor, is_fit, is_reach, is_small, tells_base, tells_room, tells_row,
+    MOST_ENTRY, NO, is_base, is_fit, is_reach, part, tells_base, tells_room, tells_row,
 };
 use std::alloc::Global;
-
-/// The part of k places with a number.
-pub(crate) fn part(alloc: Global, k: usize, number: usize) -> Result<Set, Memory>
-    ensures { IfOk result (λ s. length s ≡ k) }
-{
-    let mut s = Set::empty(alloc, k)?;
-    let mut rest = number;
-    for e in 0..k {
-        if rest % 2 == 1 {
-            s.insert(e);
-        }
-        rest /= 2;
-    }
-    Ok(s)
-}
 
 /// Whether the elements of the places are these.
 fn are_places(elements: &[usize], places: &[i128]) -> bool {
@@ -46,39 +30,6 @@ pub(crate) fn has_places<T: Term>(term: &T, places: &[i128]) -> bool {
 /// Whether this is the size.
 pub(crate) fn has_size<T: Term>(term: &T, size: &[i128]) -> bool {
     size.len() == 1 && term.size() == size[0]
-}
-
-/// The value of a part by its number.
-pub(crate) fn value_at<T: Term>(alloc: Global, term: &T, number: usize) -> Result<i128, Memory> {
-    let s = part(alloc, term.elements().len(), number)?;
-    Ok(term.value(alloc, &s)?.unwrap_or(NO))
-}
-
-/// Whether these are the values of the parts.
-pub(crate) fn has_values<T: Term>(alloc: Global, term: &T, values: &[i128]) -> bool {
-    for number in 0..values.len() {
-        if value_at(alloc, term, number) != Ok(values[number]) {
-            return false;
-        }
-    }
-    true
-}
-
-/// Whether the first base of q times a term is that one.
-fn is_start<T: Term>(alloc: Global, term: &T, at: &At<'_>) -> bool
-    requires factor { IsFactor at.now.q }
-    requires bounded { T.size_of term.now ≤ℤ pos (10 ^ 18) }
-{
-    let Ok(mut x) = vec![in alloc; 1; term.elements().len()] else {
-        return false;
-    };
-    let started = term.start(alloc, at.q, x.as_mut_slice()).is_ok();
-    started && x.as_slice() == at.x
-}
-
-/// Whether the first base of q times a term can be asked for, and is that one.
-pub(crate) fn starts<T: Term>(alloc: Global, term: &T, at: &At<'_>) -> bool {
-    is_factor(at.q) && is_small(term) && is_start(alloc, term, at)
 }
 
 /// Whether bases of q times a term can be asked for, and a vector is none.

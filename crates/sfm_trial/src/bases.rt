@@ -1,5 +1,5 @@
-// Whether a vector is a base of q times a term. A term may be asked for that only where all numbers are within the bounds, which is
-// seen first.
+// The first base of q times a term, and whether a vector is a base. A term may be asked for these only where all numbers are within
+// the bounds, which is seen first.
 ghost use Rattle.std.specs.{Prelude.{◌≡◌, ◌↔◌, ◌^◌, ◌≤ℤ◌, length, pos, IfOk, IsTrue}, List.{All}};
 ghost use Rattle.sfm_spec.specs.Bounds.{IsEntry, IsFactor};
 ghost use Rattle.sfm_law.specs.Based.{IsBased};
@@ -22,7 +22,7 @@ fn are_entries(x: &[i128]) -> bool
 }
 
 /// Whether a number is a factor.
-pub fn is_factor(q: i128) -> bool
+fn is_factor(q: i128) -> bool
     ensures { IsTrue result ↔ IsFactor q }
 {
     1 <= q && q <= 1_000_000
@@ -33,6 +33,31 @@ pub fn is_small<T: Term>(term: &T) -> bool
     ensures { IsTrue result ↔ T.size_of term.now ≤ℤ pos (10 ^ 18) }
 {
     term.size() <= MOST_SIZE
+}
+
+/// The first base of q times a term; nothing where memory lacks.
+pub fn first_base<T: Term>(alloc: Global, term: &T, q: i128) -> Option<Vec<i128>>
+    requires factor { IsFactor q }
+    requires bounded { T.size_of term.now ≤ℤ pos (10 ^ 18) }
+{
+    let Ok(mut x) = vec![in alloc; 1; term.elements().len()] else {
+        return None;
+    };
+    match term.start(alloc, q, x.as_mut_slice()) {
+        Ok(()) => Some(x),
+        Err(_) => None,
+    }
+}
+
+/// Whether the first base of q times a term can be asked for, and is that one.
+pub fn starts<T: Term>(alloc: Global, term: &T, at: &At<'_>) -> bool {
+    if !is_factor(at.q) || !is_small(term) {
+        return false;
+    }
+    match first_base(alloc, term, at.q) {
+        Some(x) => x.as_slice() == at.x,
+        None => false,
+    }
 }
 
 /// Whether a vector has a number for each place of a term.

@@ -1,10 +1,12 @@
-// What a term is asked for in tests: whether a vector is a base of it, and whether a note tells the rows and the rooms that the term
-// tells without one. Each is asked by a function that answers yes or no, and no where memory lacks. Crates of tests stand on it, and
-// nothing else does.
+// What a term is asked for in tests: its values, its first base, whether a vector is a base of it, and whether a note tells the rows
+// and the rooms that the term tells without one. Each is asked by a function that answers yes or no, and no where memory lacks. Crates of
+// tests stand on it, and nothing else does.
 #![tactic(auto)]
 
 pub mod bases;
 pub mod notes;
+pub mod parts;
 
-pub use bases::{MOST_ENTRY, is_base, is_factor, is_fit, is_small, tells_base};
+pub use bases::{MOST_ENTRY, first_base, is_base, is_fit, is_small, starts, tells_base};
 pub use notes::{is_reach, tells_room, tells_row};
+pub use parts::{NO, has_values, part, value_at};

@@ -1,5 +1,5 @@
 use Rattle.std.proofs.Common.{◌≡◌, length}
-use Rattle.sfm_term_tests.proofs.trial.part.Given as goal
+use Rattle.sfm_trial.proofs.parts.part.Given as goal
 
 abbrev pub invariant-loop-e : goal.invariant-loop-e
 invariant-loop-e l = length l.s ≡ l.k
