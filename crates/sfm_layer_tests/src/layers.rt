@@ -8,9 +8,10 @@ ghost use Rattle.sfm_layer_tests.specs.Weighed.{AreThreeWeighed, IsOfThree};
 use sfm_base::Memory;
 use sfm_concave::Uniform;
 use sfm_graphic::Graphic;
-use sfm_kind::{Instance, Kind, Layers, Weighed, is_name};
+use sfm_kind::{Instance, Kind, Layers, Weighed};
 use sfm_law::Term;
 use sfm_simple::Weight;
+use sfm_trial::{add, add_names};
 use std::alloc::Global;
 
 /// The layers of a rank that counts 1 for each independent element, whose weights are small.
@@ -118,29 +119,6 @@ fn what_layers_bring(rt: HostRuntime) {
 /// The names of the elements.
 const NAMES: [&str; 3] = ["a", "b", "c"];
 
-/// Adds an element with a new name, if it can be.
-fn add_name(instance: &mut Instance, name: &[u8]) -> bool {
-    if !is_name(name) || instance.place_of(name).is_some() || instance.names_len() >= 256 {
-        return false;
-    }
-    instance.add_name(name).is_ok()
-}
-
-/// Adds the elements, if they can be.
-fn add_names(instance: &mut Instance) -> bool {
-    for name in &NAMES {
-        if !add_name(instance, name.as_bytes()) {
-            return false;
-        }
-    }
-    true
-}
-
-/// Adds a term, if the bounds take it.
-fn add(instance: &mut Instance, term: Kind) -> bool {
-    instance.takes(&term) && instance.add_term(term).is_ok()
-}
-
 /// Adds weights -4, -2 and -2, if they can be.
 fn add_weight(alloc: Global, instance: &mut Instance) -> bool {
     match Weight::new(alloc, &[0, 1, 2], &[-4, -2, -2]) {
@@ -181,7 +159,7 @@ fn add_triangle(alloc: Global, instance: &mut Instance) -> bool {
 pub(crate) fn instance(alloc: Global) -> Option<Instance> {
     let mut instance = Instance::new(alloc);
     instance.set_version2();
-    if add_names(&mut instance)
+    if add_names(&mut instance, &NAMES)
         && add_weight(alloc, &mut instance)
         && add_triangle(alloc, &mut instance)
     {

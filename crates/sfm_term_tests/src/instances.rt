@@ -2,39 +2,16 @@
 ghost use Rattle.std.specs.Prelude.{◌<◌, ◌^◌, ◌≤ℤ◌, pos};
 
 use sfm_base::Memory;
-use sfm_kind::{Instance, Kind, is_name};
+use sfm_kind::{Instance, Kind};
 use sfm_law::Term;
 use sfm_simple::{Cut, Need, Weight};
-use sfm_trial::{NO, value_at};
+use sfm_trial::{NO, add, add_names, value_at};
 use std::alloc::Global;
 
 const MOST_SIZE: i128 = 1_000_000_000_000_000_000;
 
 /// The names of the elements.
 const NAMES: [&str; 2] = ["a", "b"];
-
-/// Adds an element with a new name, if it can be.
-fn add_name(instance: &mut Instance, name: &[u8]) -> bool {
-    if !is_name(name) || instance.place_of(name).is_some() || instance.names_len() >= 256 {
-        return false;
-    }
-    instance.add_name(name).is_ok()
-}
-
-/// Adds the elements a and b, if they can be.
-fn add_names(instance: &mut Instance) -> bool {
-    for name in &NAMES {
-        if !add_name(instance, name.as_bytes()) {
-            return false;
-        }
-    }
-    true
-}
-
-/// Adds a term, if the bounds take it.
-fn add(instance: &mut Instance, term: Kind) -> bool {
-    instance.takes(&term) && instance.add_term(term).is_ok()
-}
 
 /// Adds weights -3 and 2, if they can be.
 fn add_weight(alloc: Global, instance: &mut Instance) -> bool {
@@ -133,7 +110,7 @@ fn is_weight_and_cut(alloc: Global, instance: &Instance) -> bool {
 /// Whether the instance of a weight and a cut is so once it is made.
 fn makes_weight_and_cut(alloc: Global) -> bool {
     let mut instance = Instance::new(alloc);
-    add_names(&mut instance)
+    add_names(&mut instance, &NAMES)
         && add_terms(alloc, &mut instance)
         && is_weight_and_cut(alloc, &instance)
 }
@@ -144,7 +121,7 @@ const SUMS_OF_A_NEED: [i128; 4] = [0, NO, 0, 0];
 /// Whether the instance of a condition is so once it is made.
 fn makes_need(alloc: Global) -> bool {
     let mut instance = Instance::new(alloc);
-    add_names(&mut instance)
+    add_names(&mut instance, &NAMES)
         && add(&mut instance, Kind::Need(Need::new(0, 1)))
         && instance.total_size() == 0
         && has_sums(alloc, instance.terms(), &SUMS_OF_A_NEED)
