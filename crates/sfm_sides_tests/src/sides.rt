@@ -5,7 +5,7 @@ ghost use Rattle.std.specs.Prelude.{◌≡◌, ◌<◌, ◌*◌, ◌^◌, ◌≤
 ghost use Rattle.sfm_spec.specs.{Bounds.{IsFactor}, Terms.{times}};
 ghost use Rattle.sfm_law.specs.Based.{IsBased, IsPair, CanSwap};
 
-use sfm_base::{Memory, Set};
+use sfm_base::Memory;
 use sfm_concave::{Concave, Uniform};
 use sfm_flip::Flip;
 use sfm_graphic::Graphic;
@@ -15,7 +15,10 @@ use sfm_law::{At, Room, Swap, Term, exchange};
 use sfm_matroid::{Entries, Transversal};
 use sfm_sides::Side;
 use sfm_simple::{Cover, Cut, Need, Table, Weight};
-use sfm_trial::{MOST_ENTRY, is_base, is_reach, is_small, tells_room, tells_row};
+use sfm_trial::{
+    MOST_ENTRY, first_base, has_values, is_base, is_reach, is_small, part, starts, tells_room,
+    tells_row,
+};
 use std::alloc::Global;
 
 const MOST_HALF: i128 = 500_000_000_000_000_000;
@@ -25,20 +28,6 @@ const Q: i128 = 2;
 
 /// How many kinds there are.
 const KINDS: usize = 10;
-
-/// The first base of q times a term, if memory is there.
-fn first_base<T: Term>(alloc: Global, term: &T, q: i128) -> Option<Vec<i128>>
-    requires factor { IsFactor q }
-    requires bounded { T.size_of term.now ≤ℤ pos (10 ^ 18) }
-{
-    let Ok(mut x) = vec![in alloc; 1; term.elements().len()] else {
-        return None;
-    };
-    match term.start(alloc, q, x.as_mut_slice()) {
-        Ok(()) => Some(x),
-        Err(_) => None,
-    }
-}
 
 /// Whether a note tells each row at a base.
 fn tells_rows<T: Term>(alloc: Global, term: &T, at: &At<'_>, note: &mut T::Note) -> bool
@@ -250,27 +239,6 @@ fn flip_of(kind: Kind) -> Option<Flip> {
     }
 }
 
-/// The value of the part of one place; nothing where there is no such place or value, or memory lacks.
-fn single_value<T: Term>(alloc: Global, term: &T, e: usize) -> Option<i128> {
-    let k = term.elements().len();
-    if e >= k {
-        return None;
-    }
-    let mut s = Set::empty(alloc, k).ok()?;
-    s.insert(e);
-    term.value(alloc, &s).ok()?
-}
-
-/// Whether those are the values of the parts of one place.
-fn has_values<T: Term>(alloc: Global, term: &T, values: &[i128]) -> bool {
-    for e in 0..values.len() {
-        if single_value(alloc, term, e) != Some(values[e]) {
-            return false;
-        }
-    }
-    true
-}
-
 /// A place that is raised, one that is lowered, and how much can be exchanged between them.
 #[derive(Clone, Copy)]
 struct Told {
@@ -309,26 +277,13 @@ fn has_rooms<T: Term>(alloc: Global, term: &T, at: &At<'_>, rooms: &[Told]) -> b
 }
 
 /// Whether a term has those rooms at what is to be a base of it, and there room from the first place to the other two.
-fn answers<T: Term>(alloc: Global, term: &T, x: &[i128], rooms: &[Told]) -> bool {
-    let at = At { q: 1, x };
-    if x.len() != 3 || !is_base(alloc, term, &at) || !has_rooms(alloc, term, &at, rooms) {
+fn answers<T: Term>(alloc: Global, term: &T, at: &At<'_>, rooms: &[Told]) -> bool {
+    if at.x.len() != 3 || !is_base(alloc, term, at) || !has_rooms(alloc, term, at, rooms) {
         return false;
     }
-    let Ok(mut others) = Set::whole(alloc, 3) else {
-        return false;
-    };
-    others.remove(0);
-    is_reach(alloc, term, &at, 0, &others)
-}
-
-/// Whether the first base of a term is that one.
-fn starts<T: Term>(alloc: Global, term: &T, x: &[i128]) -> bool {
-    if !is_small(term) {
-        return false;
-    }
-    match first_base(alloc, term, 1) {
-        Some(found) => found.as_slice() == x,
-        None => false,
+    match part(alloc, 3, 6) {
+        Ok(others) => is_reach(alloc, term, at, 0, &others),
+        Err(_) => false,
     }
 }
 
@@ -342,10 +297,14 @@ fn is_concave_right(alloc: Global) -> bool {
     let Some(term) = flipped(alloc, 5) else {
         return false;
     };
+    let first = At {
+        q: 1,
+        x: &[-4, -3, -1],
+    };
     term.size() == 16
-        && has_values(alloc, &term, &[-1, -1, -1])
-        && starts(alloc, &term, &[-4, -3, -1])
-        && answers(alloc, &term, &[-4, -3, -1], &ROOMS)
+        && has_values(alloc, &term, &[0, -1, -1, -4, -1, -4, -4, -8])
+        && starts(alloc, &term, &first)
+        && answers(alloc, &term, &first, &ROOMS)
 }
 
 /// Whether a cut turned round answers what was worked by hand.
@@ -353,7 +312,8 @@ fn is_cut_right(alloc: Global) -> bool {
     let Some(term) = flipped(alloc, 1) else {
         return false;
     };
-    term.size() == 6 && has_values(alloc, &term, &[0, 3]) && starts(alloc, &term, &[-3, 3])
+    let first = At { q: 1, x: &[-3, 3] };
+    term.size() == 6 && has_values(alloc, &term, &[0, 0, 3, 0]) && starts(alloc, &term, &first)
 }
 
 /// Whether the term of the kind with that number walks, turned round and on either side.
