@@ -1,11 +1,11 @@
-// The first base of q times a term, and whether a vector is a base. A term may be asked for these only where all numbers are within
-// the bounds, which is seen first.
+// The first base of q times a term, whether a vector is a base, and whether rows of bases are those of a table. A term may be asked
+// for bases only where all numbers are within the bounds, which is seen first.
 ghost use Rattle.std.specs.{Prelude.{◌≡◌, ◌↔◌, ◌^◌, ◌≤ℤ◌, length, pos, IfOk, IsTrue}, List.{All}};
 ghost use Rattle.sfm_spec.specs.Bounds.{IsEntry, IsFactor};
 ghost use Rattle.sfm_law.specs.Based.{IsBased};
 ghost use Rattle.sfm_trial.specs.Fit.{IsFit};
 
-use sfm_base::Memory;
+use sfm_base::{Memory, Rows};
 use sfm_law::{At, Term};
 use std::alloc::Global;
 
@@ -15,10 +15,20 @@ pub const MOST_ENTRY: i128 = 1_000_000_000_000_000_000_000_000_000_000;
 const MOST_SIZE: i128 = 1_000_000_000_000_000_000;
 
 /// Whether each number is a possible entry of a base.
-fn are_entries(x: &[i128]) -> bool
+pub fn are_entries(x: &[i128]) -> bool
     ensures { IsTrue result ↔ All IsEntry x.now }
 {
     x.iter().all(|a| -MOST_ENTRY <= *a && *a <= MOST_ENTRY)
+}
+
+/// Whether rows are these.
+pub fn are_rows(rows: &Rows, told: &[&[i128]]) -> bool {
+    for (i, row) in told.iter().enumerate() {
+        if i >= rows.len() || rows.row(i) != *row {
+            return false;
+        }
+    }
+    rows.len() == told.len()
 }
 
 /// Whether a number is a factor.

@@ -8,7 +8,9 @@ pub mod instances;
 pub mod notes;
 pub mod parts;
 
-pub use bases::{MOST_ENTRY, first_base, is_base, is_fit, is_small, starts, tells_base};
+pub use bases::{
+    MOST_ENTRY, are_entries, are_rows, first_base, is_base, is_fit, is_small, starts, tells_base,
+};
 pub use instances::{add, add_names};
 pub use notes::{is_reach, tells_room, tells_row};
 pub use parts::{NO, has_values, part, value_at};

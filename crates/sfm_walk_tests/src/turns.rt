@@ -6,23 +6,24 @@ ghost use Rattle.std.specs.{Prelude.{◌≡◌, ◌<◌, ◌^◌, ℕ, Bool, Lis
 ghost use Rattle.sfm_spec.specs.{Sets.{Has}, Bounds.{AreBounded, IsEntry, IsFactor}, Families.{meanings, AreBases}, Walks.{IsShortestTo}};
 
 use crate::amounts::can_move;
-use crate::rows::{are_rows, are_small};
+use crate::rows::are_small;
 use sfm_base::{Rows, Set};
 use sfm_law::{Term, Walk, start_rows};
 use sfm_simple::{Cover, Cut, Need};
+use sfm_trial::are_rows;
 use sfm_walk::{follow, shortest};
 use std::alloc::Global;
 use std::process::Abort;
 
 /// A turn: the place to begin at, those to come to, the steps of the walk, each the place at which it ends and its term, the
 /// amount, and the bases afterwards. No steps: no walk leads there, and nothing is moved.
-struct Turn {
-    from: usize,
-    to: &'static [usize],
-    steps: &'static [(usize, usize)],
-    amount: i128,
-    after: &'static [&'static [i128]],
-}
+type Turn = (
+    usize,
+    &'static [usize],
+    &'static [(usize, usize)],
+    i128,
+    &'static [&'static [i128]],
+);
 
 /// The set of some of n places.
 fn set_of(alloc: Global, n: usize, places: &[usize]) -> Option<Set>
@@ -59,15 +60,15 @@ fn moves<T: Term>(
     ensures bases { IsTrue result → AreBases q (meanings T.places T.value_of terms.now) bases.new }
     ensures small { IsTrue result → All (λ x. All IsEntry x) bases.new }
 {
-    let a = turn.amount;
-    if a < 1 || a > 1_000_000_000_000_000_000 || walk.steps.as_slice() != turn.steps {
+    let (_, _, steps, a, after) = *turn;
+    if a < 1 || a > 1_000_000_000_000_000_000 || walk.steps.as_slice() != steps {
         return false;
     }
     if !can_move(alloc, terms, q, bases, walk, a) {
         return false;
     }
     follow(terms, q, bases, walk, a);
-    are_rows(bases, turn.after) && are_small(bases)
+    are_rows(bases, after) && are_small(bases)
 }
 
 /// Takes a turn, and tells whether all is as worked out.
@@ -86,15 +87,16 @@ fn takes<T: Term>(
     ensures bases { IsTrue result → AreBases q (meanings T.places T.value_of terms.now) bases.new }
     ensures small { IsTrue result → All (λ x. All IsEntry x) bases.new }
 {
-    let Some(to) = set_of(alloc, n, turn.to) else {
+    let (from, ends, steps, ..) = *turn;
+    let Some(to) = set_of(alloc, n, ends) else {
         return false;
     };
-    if turn.from >= n || to.contains(turn.from) {
+    if from >= n || to.contains(from) {
         return false;
     }
-    match shortest(alloc, terms, q, bases, turn.from, &to) {
+    match shortest(alloc, terms, q, bases, from, &to) {
         Ok(Some(walk)) => moves(alloc, terms, q, bases, &walk, turn),
-        Ok(None) => turn.steps.is_empty(),
+        Ok(None) => steps.is_empty(),
         Err(_) => false,
     }
 }
@@ -117,69 +119,51 @@ fn are_taken<T: Term>(alloc: Global, terms: &[T], n: usize, q: i128, turns: &[Tu
 
 /// Over the cuts 5 from 0 to 1, 3 from 1 to 2, 4 from 2 to 3 and 7 from 0 to 2, whose first bases are full: steps lead back.
 const ON_CUTS: [Turn; 9] = [
-    Turn {
-        from: 0,
-        to: &[1, 2, 3],
-        steps: &[],
-        amount: 0,
-        after: &[],
-    },
-    Turn {
-        from: 3,
-        to: &[],
-        steps: &[],
-        amount: 0,
-        after: &[],
-    },
-    Turn {
-        from: 3,
-        to: &[0],
-        steps: &[(2, 2), (0, 3)],
-        amount: 3,
-        after: &[&[5, -5], &[3, -3], &[1, -1], &[4, -4]],
-    },
-    Turn {
-        from: 2,
-        to: &[3],
-        steps: &[(3, 2)],
-        amount: 1,
-        after: &[&[5, -5], &[3, -3], &[2, -2], &[4, -4]],
-    },
-    Turn {
-        from: 0,
-        to: &[1],
-        steps: &[(2, 3), (1, 1)],
-        amount: 3,
-        after: &[&[5, -5], &[0, 0], &[2, -2], &[7, -7]],
-    },
-    Turn {
-        from: 1,
-        to: &[3],
-        steps: &[(2, 1), (3, 2)],
-        amount: 2,
-        after: &[&[5, -5], &[2, -2], &[4, -4], &[7, -7]],
-    },
-    Turn {
-        from: 3,
-        to: &[0],
-        steps: &[(2, 2), (0, 3)],
-        amount: 4,
-        after: &[&[5, -5], &[2, -2], &[0, 0], &[3, -3]],
-    },
-    Turn {
-        from: 3,
-        to: &[0, 1, 2],
-        steps: &[],
-        amount: 0,
-        after: &[],
-    },
-    Turn {
-        from: 1,
-        to: &[0, 3],
-        steps: &[(0, 0)],
-        amount: 5,
-        after: &[&[0, 0], &[2, -2], &[0, 0], &[3, -3]],
-    },
+    (0, &[1, 2, 3], &[], 0, &[]),
+    (3, &[], &[], 0, &[]),
+    (
+        3,
+        &[0],
+        &[(2, 2), (0, 3)],
+        3,
+        &[&[5, -5], &[3, -3], &[1, -1], &[4, -4]],
+    ),
+    (
+        2,
+        &[3],
+        &[(3, 2)],
+        1,
+        &[&[5, -5], &[3, -3], &[2, -2], &[4, -4]],
+    ),
+    (
+        0,
+        &[1],
+        &[(2, 3), (1, 1)],
+        3,
+        &[&[5, -5], &[0, 0], &[2, -2], &[7, -7]],
+    ),
+    (
+        1,
+        &[3],
+        &[(2, 1), (3, 2)],
+        2,
+        &[&[5, -5], &[2, -2], &[4, -4], &[7, -7]],
+    ),
+    (
+        3,
+        &[0],
+        &[(2, 2), (0, 3)],
+        4,
+        &[&[5, -5], &[2, -2], &[0, 0], &[3, -3]],
+    ),
+    (3, &[0, 1, 2], &[], 0, &[]),
+    (
+        1,
+        &[0, 3],
+        &[(0, 0)],
+        5,
+        &[&[0, 0], &[2, -2], &[0, 0], &[3, -3]],
+    ),
 ];
 
 /// Whether the turns over the cuts are all as worked out.
@@ -195,27 +179,9 @@ fn are_cuts_right(alloc: Global) -> bool {
 
 /// Over twice the covers 3 of 0 and 1 and 2 of 1 and 2, whose first bases have all at their first places.
 const ON_COVERS: [Turn; 3] = [
-    Turn {
-        from: 2,
-        to: &[0],
-        steps: &[(1, 1), (0, 0)],
-        amount: 4,
-        after: &[&[2, 4], &[0, 4]],
-    },
-    Turn {
-        from: 2,
-        to: &[0],
-        steps: &[],
-        amount: 0,
-        after: &[],
-    },
-    Turn {
-        from: 0,
-        to: &[2],
-        steps: &[(1, 0), (2, 1)],
-        amount: 1,
-        after: &[&[3, 3], &[1, 3]],
-    },
+    (2, &[0], &[(1, 1), (0, 0)], 4, &[&[2, 4], &[0, 4]]),
+    (2, &[0], &[], 0, &[]),
+    (0, &[2], &[(1, 0), (2, 1)], 1, &[&[3, 3], &[1, 3]]),
 ];
 
 /// Whether the turns over the covers are all as worked out; no where memory lacks.
@@ -231,40 +197,28 @@ fn are_covers_right(alloc: Global) -> bool {
 
 /// Over the needs of 0 for 1 and of 1 for 2, whose first bases are 0.
 const ON_NEEDS: [Turn; 4] = [
-    Turn {
-        from: 2,
-        to: &[0, 1],
-        steps: &[],
-        amount: 0,
-        after: &[],
-    },
-    Turn {
-        from: 0,
-        to: &[2],
-        steps: &[(1, 0), (2, 1)],
-        amount: 1_000_000_000_000_000_000,
-        after: &[
+    (2, &[0, 1], &[], 0, &[]),
+    (
+        0,
+        &[2],
+        &[(1, 0), (2, 1)],
+        1_000_000_000_000_000_000,
+        &[
             &[1_000_000_000_000_000_000, -1_000_000_000_000_000_000],
             &[1_000_000_000_000_000_000, -1_000_000_000_000_000_000],
         ],
-    },
-    Turn {
-        from: 2,
-        to: &[1],
-        steps: &[(1, 1)],
-        amount: 1_000_000_000_000_000_000,
-        after: &[
+    ),
+    (
+        2,
+        &[1],
+        &[(1, 1)],
+        1_000_000_000_000_000_000,
+        &[
             &[1_000_000_000_000_000_000, -1_000_000_000_000_000_000],
             &[0, 0],
         ],
-    },
-    Turn {
-        from: 2,
-        to: &[0],
-        steps: &[],
-        amount: 0,
-        after: &[],
-    },
+    ),
+    (2, &[0], &[], 0, &[]),
 ];
 
 /// Whether the turns over the needs are all as worked out.
