@@ -22,10 +22,7 @@ fn is_told(alloc: Global, instance: &Instance, pins: &[u8], told: &[u8]) -> bool
 fn is_row(alloc: Global, row: &str) -> bool {
     let (lines, rest) = row.split_once('>').unwrap_or((row, ""));
     let (pins, told) = rest.split_once('>').unwrap_or((rest, ""));
-    let Some(lines) = text_of(alloc, lines) else {
-        return false;
-    };
-    let Some(instance) = instance_of(alloc, lines.as_str()) else {
+    let Some(instance) = instance_of(alloc, lines) else {
         return false;
     };
     let Some(pins) = text_of(alloc, pins) else {

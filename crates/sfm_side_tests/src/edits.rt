@@ -4,12 +4,13 @@ ghost use Rattle.sfm_spec.specs.{Bounds.{IsEntry}, Families.{meanings, AreBases}
 ghost use Rattle.sfm_kind.specs.Kinds.{kind_places, kind_value};
 ghost use Rattle.sfm_edit.specs.Resuming.{AreOldBases};
 
-use crate::rows::{instance_of, is_fault, text_of};
-use sfm_base::{Rows, Set, Steps};
+use crate::rows::{has_listed, instance_of, is_fault, read_text, text_of};
+use sfm_base::{Rows, Steps};
 use sfm_edit::{Edited, Origins, apply, resume};
 use sfm_extreme::{Certified, certify};
 use sfm_kind::{Instance, Kind};
 use sfm_law::Term;
+use sfm_trial::are_rows;
 use sfm_walk::minimise;
 use std::alloc::Global;
 use std::process::Abort;
@@ -47,24 +48,6 @@ pub fn are_alike(terms: &[Kind], others: &[Kind]) -> bool {
         }
     }
     terms.len() == others.len()
-}
-
-/// Whether the rows are these.
-fn are_rows(rows: &Rows, told: &[&[i128]]) -> bool {
-    for (i, row) in told.iter().enumerate() {
-        if i >= rows.len() || rows.row(i) != *row {
-            return false;
-        }
-    }
-    rows.len() == told.len()
-}
-
-/// Whether a set of the elements a, b and c has those that are listed.
-fn has_listed(set: &Set, list: &str) -> bool {
-    set.len() == 3
-        && set.contains(0) == list.contains('a')
-        && set.contains(1) == list.contains('b')
-        && set.contains(2) == list.contains('c')
 }
 
 /// Whether bases prove the minimum of a row, and its least minimiser.
@@ -120,19 +103,13 @@ fn is_edited(alloc: Global, instance: Instance, edits: &[u8], cold: &Instance, r
 
 /// Whether a row holds, and its minimum is found from the first bases too.
 fn is_row(alloc: Global, row: &Row) -> bool {
-    let Some(lines) = text_of(alloc, row.lines) else {
-        return false;
-    };
     let Some(edits) = text_of(alloc, row.edits) else {
         return false;
     };
-    let Some(after) = text_of(alloc, row.after) else {
+    let Some(instance) = instance_of(alloc, row.lines) else {
         return false;
     };
-    let Some(instance) = instance_of(alloc, lines.as_str()) else {
-        return false;
-    };
-    let Some(cold) = instance_of(alloc, after.as_str()) else {
+    let Some(cold) = instance_of(alloc, row.after) else {
         return false;
     };
     is_minimum(alloc, &cold, row) && is_edited(alloc, instance, edits.as_bytes(), &cold, row)
@@ -222,16 +199,13 @@ fn minima_are_found_from_the_bases_before_edits(rt: HostRuntime) {
     }
 }
 
-/// Whether a row holds: the first fault of a text, and behind an arrow that text, as edits of weights and a cut.
-fn is_refused(alloc: Global, row: &str) -> bool {
+/// Whether a row holds: the first fault of a text, and behind an arrow that text, as edits of the instance of another.
+pub fn is_refused(alloc: Global, text: &str, row: &str) -> bool {
     let (told, edits) = row.split_once('>').unwrap_or((row, ""));
-    let Some(lines) = text_of(alloc, EDGE) else {
+    let Some(instance) = read_text(alloc, text) else {
         return false;
     };
     let Some(edits) = text_of(alloc, edits) else {
-        return false;
-    };
-    let Some(instance) = instance_of(alloc, lines.as_str()) else {
         return false;
     };
     match apply(alloc, instance, edits.as_bytes()) {
@@ -240,7 +214,10 @@ fn is_refused(alloc: Global, row: &str) -> bool {
     }
 }
 
-/// Texts with a fault.
+/// The text of weights and a cut.
+const EDGE_TEXT: &str = "sfm 1|ground a b c|weight a:-3 b:2|cut 4 a b|end";
+
+/// Texts with a fault, as edits of these.
 const FAULTS: [&str; 9] = [
     "1 short>",
     "1 word>pins 1|end",
@@ -256,6 +233,6 @@ const FAULTS: [&str; 9] = [
 #[test]
 fn faults_of_edits_have_their_reasons(rt: HostRuntime) {
     for row in &FAULTS {
-        assert!(rt; is_refused(rt.alloc(), row), "{row}");
+        assert!(rt; is_refused(rt.alloc(), EDGE_TEXT, row), "{row}");
     }
 }

@@ -1,9 +1,7 @@
 // Texts of edits of instances with ranks whose elements have weights: a line has a term for each of its layers.
-use crate::edits::{are_alike, are_kept};
-use crate::rows::{is_fault, text_of};
+use crate::edits::{are_alike, are_kept, is_refused};
+use crate::rows::{read_text, text_of};
 use sfm_edit::{Edited, apply};
-use sfm_kind::Instance;
-use sfm_text::read_instance;
 use std::alloc::Global;
 use std::process::Abort;
 
@@ -50,15 +48,9 @@ const ROWS: [Row; 4] = [
     },
 ];
 
-/// The instance of a text in which `|` is a line feed.
-fn read(alloc: Global, text: &str) -> Option<Instance> {
-    let text = text_of(alloc, text)?;
-    read_instance(alloc, text.as_bytes()).ok()
-}
-
 /// What the edits of a text lead to.
 fn edited(alloc: Global, text: &str, edits: &str) -> Option<Edited> {
-    let instance = read(alloc, text)?;
+    let instance = read_text(alloc, text)?;
     let edits = text_of(alloc, edits)?;
     apply(alloc, instance, edits.as_bytes()).ok()
 }
@@ -68,7 +60,7 @@ fn is_row(alloc: Global, row: &Row) -> bool {
     let Some(found) = edited(alloc, row.text, row.edits) else {
         return false;
     };
-    let Some(after) = read(alloc, row.after) else {
+    let Some(after) = read_text(alloc, row.after) else {
         return false;
     };
     are_kept(&found.kept, row.kept)
@@ -84,23 +76,10 @@ fn each_layer_of_a_line_has_its_place(rt: HostRuntime) {
     }
 }
 
-/// Whether a row holds: the first fault of a text, and behind an arrow that text, as edits of two lines, one with two layers.
-fn is_refused(alloc: Global, row: &str) -> bool {
-    let (told, edits) = row.split_once('>').unwrap_or((row, ""));
-    let text = "sfm 2|ground a b c|rank 1 uniform 2 : a*2 b|cut 4 b c|end";
-    let Some(instance) = read(alloc, text) else {
-        return false;
-    };
-    let Some(edits) = text_of(alloc, edits) else {
-        return false;
-    };
-    match apply(alloc, instance, edits.as_bytes()) {
-        Ok(_) => false,
-        Err(end) => is_fault(end, told),
-    }
-}
+/// The text of two lines, one with two layers.
+const LAYERED: &str = "sfm 2|ground a b c|rank 1 uniform 2 : a*2 b|cut 4 b c|end";
 
-/// Texts with a fault.
+/// Texts with a fault, as edits of these.
 const FAULTS: [&str; 6] = [
     "2 number>edits 1|drop 3|end",
     "4 number>edits 1|add rank 1 uniform 1 : a*5 b*3 c|drop 1|drop 3|end",
@@ -113,6 +92,6 @@ const FAULTS: [&str; 6] = [
 #[test]
 fn faults_of_added_layers_have_their_reasons(rt: HostRuntime) {
     for row in &FAULTS {
-        assert!(rt; is_refused(rt.alloc(), row), "{row}");
+        assert!(rt; is_refused(rt.alloc(), LAYERED, row), "{row}");
     }
 }

@@ -1,19 +1,10 @@
 // Texts of pins.
-use crate::rows::{Read, are_rows};
-use sfm_base::Set;
+use crate::rows::{Read, are_rows, has_listed};
 use sfm_kind::Instance;
 use sfm_side::{Pins, read_pins};
 use sfm_text::TextEnd;
 use std::alloc::Global;
 use std::process::Abort;
-
-/// Whether a set of the elements a, b and c has those that are listed.
-fn has_listed(set: &Set, list: &str) -> bool {
-    set.len() == 3
-        && set.contains(0) == list.contains('a')
-        && set.contains(1) == list.contains('b')
-        && set.contains(2) == list.contains('c')
-}
 
 const GROUND: &str = "ground a b c";
 

@@ -1,24 +1,32 @@
 // What a row of a table says: the line and the word of the first fault of a text, or what a good text gives.
-use sfm_base::read_number;
+use sfm_base::{Set, read_number};
 use sfm_kind::Instance;
 use sfm_text::{TextEnd, read_instance};
 use std::alloc::Global;
 
-/// The instance of a text with this ground line.
-pub fn instance_of(alloc: Global, ground: &str) -> Option<Instance> {
-    let mut text = String::new(alloc);
-    if text.push_str("sfm 1\n").is_ok()
-        && text.push_str(ground).is_ok()
-        && text.push_str("\nend\n").is_ok()
-    {
-        return read_instance(alloc, text.as_bytes()).ok();
-    }
-    None
-}
-
 /// The text of a row, in which `|` is a line feed.
 pub fn text_of(alloc: Global, row: &str) -> Option<String> {
     row.replace(alloc, "|", "\n").ok()
+}
+
+/// The instance of a text in which `|` is a line feed.
+pub fn read_text(alloc: Global, text: &str) -> Option<Instance> {
+    let text = text_of(alloc, text)?;
+    read_instance(alloc, text.as_bytes()).ok()
+}
+
+/// The instance with these lines, between which `|` stands.
+pub fn instance_of(alloc: Global, lines: &str) -> Option<Instance> {
+    let text = format!(in alloc; "sfm 1|{lines}|end").ok()?;
+    read_text(alloc, text.as_str())
+}
+
+/// Whether a set of the elements a, b and c has those that are listed.
+pub fn has_listed(set: &Set, list: &str) -> bool {
+    set.len() == 3
+        && set.contains(0) == list.contains('a')
+        && set.contains(1) == list.contains('b')
+        && set.contains(2) == list.contains('c')
 }
 
 /// Whether the end of a reading is that fault: its line and its word.
