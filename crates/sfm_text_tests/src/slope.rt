@@ -6,26 +6,19 @@ use sfm_slope::{partition, partition_by};
 use std::alloc::Global;
 
 /// What a breakpoint tells: the numerator and the denominator of its slope, the size of its set, how many bases it has, and one
-/// of these by its number.
-struct Told {
-    num: i128,
-    den: i128,
-    size: usize,
-    bases: usize,
-    number: usize,
-    base: &'static [i128],
-}
+/// of these, behind its number.
+type Told = (i128, i128, usize, usize, (usize, &'static [i128]));
 
 /// Whether a breakpoint has that slope, and a set of that size.
 fn has_slope(found: &Break, told: &Told) -> bool {
-    found.slope.num == told.num && found.slope.den == told.den && found.set.size() == told.size
+    let (num, den, size, ..) = *told;
+    found.slope.num == num && found.slope.den == den && found.set.size() == size
 }
 
 /// Whether a breakpoint has so many bases, and that one among them.
 fn has_base(found: &Break, told: &Told) -> bool {
-    found.bases.len() == told.bases
-        && told.number < found.bases.len()
-        && found.bases.row(told.number) == told.base
+    let (.., bases, (number, base)) = *told;
+    found.bases.len() == bases && number < bases && found.bases.row(number) == base
 }
 
 /// Whether breakpoints tell this, in order.
@@ -46,30 +39,9 @@ fn breaks_of_nothing(alloc: Global) -> Result<Vec<Break>, Memory> {
 
 /// Each element is a breakpoint of its own; the first turn looks at 1, the second at -1/2.
 const BREAKS_OF_A_WEIGHT: [Told; 3] = [
-    Told {
-        num: -3,
-        den: 1,
-        size: 1,
-        bases: 1,
-        number: 0,
-        base: &[-3, 4, 2],
-    },
-    Told {
-        num: 2,
-        den: 1,
-        size: 2,
-        bases: 1,
-        number: 0,
-        base: &[-3, 4, 2],
-    },
-    Told {
-        num: 4,
-        den: 1,
-        size: 3,
-        bases: 1,
-        number: 0,
-        base: &[-3, 4, 2],
-    },
+    (-3, 1, 1, 1, (0, &[-3, 4, 2])),
+    (2, 1, 2, 1, (0, &[-3, 4, 2])),
+    (4, 1, 3, 1, (0, &[-3, 4, 2])),
 ];
 
 /// The breakpoints of the weights.
@@ -79,24 +51,7 @@ fn breaks_of_a_weight(alloc: Global) -> Result<Vec<Break>, Memory> {
 }
 
 /// 3 for the first two and 5 for the last three: all together at 8/5, between the slopes of the two.
-const BREAKS_OF_COVERS: [Told; 2] = [
-    Told {
-        num: 3,
-        den: 2,
-        size: 2,
-        bases: 2,
-        number: 0,
-        base: &[3, 3],
-    },
-    Told {
-        num: 5,
-        den: 3,
-        size: 5,
-        bases: 2,
-        number: 1,
-        base: &[5, 5, 5],
-    },
-];
+const BREAKS_OF_COVERS: [Told; 2] = [(3, 2, 2, 2, (0, &[3, 3])), (5, 3, 5, 2, (1, &[5, 5, 5]))];
 
 /// The breakpoints of the covers.
 fn breaks_of_covers(alloc: Global) -> Result<Vec<Break>, Memory> {
@@ -109,30 +64,9 @@ fn breaks_of_covers(alloc: Global) -> Result<Vec<Break>, Memory> {
 
 /// Where b counts two, the turn between c and all looks at 2/3, and b and then a are the blocks.
 const BREAKS_OF_A_SIZED_WEIGHT: [Told; 3] = [
-    Told {
-        num: -2,
-        den: 1,
-        size: 1,
-        bases: 1,
-        number: 0,
-        base: &[1, 1, -2],
-    },
-    Told {
-        num: 1,
-        den: 2,
-        size: 2,
-        bases: 1,
-        number: 0,
-        base: &[2, 2, -4],
-    },
-    Told {
-        num: 1,
-        den: 1,
-        size: 3,
-        bases: 1,
-        number: 0,
-        base: &[1, 1, -2],
-    },
+    (-2, 1, 1, 1, (0, &[1, 1, -2])),
+    (1, 2, 2, 1, (0, &[2, 2, -4])),
+    (1, 1, 3, 1, (0, &[1, 1, -2])),
 ];
 
 /// The breakpoints of weights, where the second element counts two.
@@ -143,22 +77,8 @@ fn breaks_of_a_sized_weight(alloc: Global) -> Result<Vec<Break>, Memory> {
 
 /// All sizes together are as large as may be.
 const BREAKS_OF_A_LARGE_ELEMENT: [Told; 2] = [
-    Told {
-        num: -1,
-        den: 1,
-        size: 1,
-        bases: 1,
-        number: 0,
-        base: &[1, -1],
-    },
-    Told {
-        num: 1,
-        den: 999_999,
-        size: 2,
-        bases: 1,
-        number: 0,
-        base: &[999_999, -999_999],
-    },
+    (-1, 1, 1, 1, (0, &[1, -1])),
+    (1, 999_999, 2, 1, (0, &[999_999, -999_999])),
 ];
 
 /// The breakpoints of weights, where the first element counts 999,999.
