@@ -11,7 +11,8 @@
 //     base 5 -5         a base of q times the term, at which the lines below are asked
 //     room 0 1 3        the room of (0, 1); `no` is one without a bound
 //     reach 0 2         the number of the part to which 0 has room
-//     times 0 1         a note made of one there tells the row of 0 and the room of (0, 1) at three times the base
+//     times 0 1         a note made of one there tells the row of 0 and the room of (0, 1) at three times the base, and so does
+//                       another one over which it is written
 //
 // A row costs no proof, since the functions that read and try it are proved for every table. They answer yes or no.
 use crate::numbers::numbers_of;

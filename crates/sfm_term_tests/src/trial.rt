@@ -171,7 +171,8 @@ fn thrice(alloc: Global, x: &[i128]) -> Result<Rows, Memory>
     rows.times(alloc, 3)
 }
 
-/// Whether a note is made of a new one for three times a base, and tells the row of u and the room of (u, v) there.
+/// Whether a note is made of a new one for three times a base, and tells the row of u and the room of (u, v) there; and whether it
+/// is written over another note, which tells the same then.
 fn tells_next<T: Term>(
     alloc: Global,
     term: &T,
@@ -189,8 +190,15 @@ fn tells_next<T: Term>(
     let Ok(note) = term.note(alloc, at) else {
         return false;
     };
+    let Ok(mut other) = term.note(alloc, at) else {
+        return false;
+    };
     match term.note_times(alloc, 3, at, &note) {
-        Ok(Some(mut made)) => tells(alloc, term, next, &mut made, u, v),
+        Ok(Some(mut made)) => {
+            tells(alloc, term, next, &mut made, u, v)
+                && term.note_over(3, at, &note, &mut other)
+                && tells(alloc, term, next, &mut other, u, v)
+        }
         _ => false,
     }
 }
@@ -211,8 +219,8 @@ fn tells_thrice<T: Term>(alloc: Global, term: &T, at: &At<'_>, u: usize, v: usiz
     is_base(alloc, term, &next) && tells_next(alloc, term, at, &next, u, v)
 }
 
-/// Whether a vector is a base of q times a term, and a note that is made of one there tells at three times the base the row of a
-/// place and the room of two.
+/// Whether a vector is a base of q times a term, and a note that is made of one there, or written over another, tells at three
+/// times the base the row of a place and the room of two.
 pub(crate) fn has_times<T: Term>(alloc: Global, term: &T, at: &At<'_>, numbers: &[i128]) -> bool {
     let u = count_at(numbers, 0);
     let v = count_at(numbers, 1);
