@@ -8,8 +8,7 @@ use Rattle.std.specs.Fmt.{decimal, signed_decimal}
 use Rattle.std.proofs.lemmas.List.{take_more, append-nil, get_or-map}
 use Rattle.sfm_cert.specs.Answer.{Break, listed, block_line, slope_line, row_lines, section_lines, text_of}
 use Rattle.sfm_cert.specs.Labels.{label_in}
-use Rattle.sfm_cert.specs.Lines.{row_line}
-use Rattle.sfm_cert.specs.LineLists.{counted, numbered, block_lines, slope_lines, break_lines}
+use Rattle.sfm_cert.specs.LineLists.{row_line, counted, numbered, block_lines, slope_lines, break_lines}
 
 -- ---- lines one behind another
 

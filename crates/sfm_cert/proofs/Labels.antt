@@ -1,4 +1,4 @@
--- Labels hold no line feed and are short, there is one for each term, and a walk over the lines meets each in its turn.
+-- Labels are short, there is one for each term, and a walk over the lines meets each in its turn.
 use Rattle.std.proofs.Common.{tests, nat_eq, false, ◌≡◌, ℕ, zero, suc, ◌+◌, ◌-◌, ◌<◌, ◌≤◌, List, [], ◌∷◌, ◌++◌, length, map, drop, get_or, refl, sym, ap, ◌∙◌, arith, append_assoc}
 use Rattle.std.specs.Prelude.{codes, decimal}
 use Rattle.std.specs.List.{All, range_with_len}
@@ -8,37 +8,15 @@ use Rattle.std.proofs.lemmas.List.Elements.{All-nil, All-cons, All-head, All-tai
 use Rattle.std.proofs.lemmas.List.FromFn.{length-map-range_with_len}
 use Rattle.std.proofs.lemmas.List.Sums.{sum-map, sum_by-cons}
 use Rattle.sfm_kind.specs.Instance.{width_of, terms_in}
-use Rattle.sfm_cert.specs.Grammar.{IsLine}
 use Rattle.sfm_cert.specs.Labels.{labels_in, labels_of, label_in}
 use Rattle.sfm_cert.specs.Spots.{label_text, spot_label, labels_from, labels_left, StandsAt}
 use Rattle.sfm_cert.specs.declared.spot.Spot.{Spot}
-use Rattle.sfm_cert.proofs.CleanLines.{decimal_line, joined, word_line}
 
 -- what holds for each item and for the one that stands for want of one
-item_holds : {X : Type 0} (P : X → Type 0) (xs : List X) (i : ℕ) (d : X) → All P xs → P d → P (get_or xs i d)
+pub item_holds : {X : Type 0} (P : X → Type 0) (xs : List X) (i : ℕ) (d : X) → All P xs → P d → P (get_or xs i d)
 item_holds P [] i d h p = p
 item_holds P (x ∷ xs) zero d h p = All-head P x xs h
 item_holds P (x ∷ xs) (suc i) d h p = item_holds P xs i d (All-tail P x xs h) p
-
--- ---- no label holds a line feed
-
-layers_line : (line a n : ℕ) → All IsLine (map (λ j. decimal line ++ codes "." ++ decimal j) (range_with_len a n))
-layers_line line a zero = All-nil IsLine
-layers_line line a (suc n) =
-    All-cons IsLine (decimal line ++ codes "." ++ decimal a) (map (λ j. decimal line ++ codes "." ++ decimal j) (range_with_len (a + 1) n))
-    (joined (decimal line ++ codes ".") (decimal a) (joined (decimal line) (codes ".") (decimal_line line) (word_line (codes ".") refl)) (decimal_line a))
-    (layers_line line (a + 1) n)
-
-in_line : (line n : ℕ) → All IsLine (labels_in line n)
-in_line line zero = All-cons IsLine (decimal line) [] (decimal_line line) (All-nil IsLine)
-in_line line (suc n) = layers_line line 1 (suc n)
-
-from_line : (k : ℕ) (lines : List ℕ) → All IsLine (labels_from k lines)
-from_line k [] = All-nil IsLine
-from_line k (n ∷ lines) = All-append IsLine (labels_in k n) (labels_from (k + 1) lines) (in_line k n) (from_line (k + 1) lines)
-
-pub label_line : (lines : List ℕ) (i : ℕ) → IsLine (label_in lines i)
-label_line lines i = item_holds IsLine ([] ∷ labels_of lines) i [] (All-cons IsLine [] (labels_of lines) (word_line [] refl) (from_line 1 lines)) (word_line [] refl)
 
 -- ---- labels are short
 

@@ -15,8 +15,7 @@ use Rattle.sfm_spec.specs.Bounds.{IsEntry, IsFactor}
 use Rattle.sfm_spec.specs.Blocks.{Block, block_at, no_block}
 use Rattle.sfm_cert.specs.Answer.{Answer, Break, Form, listed, slope_text, block_line, slope_line, at_line, row_lines, section_lines, head_lines, answer_lines, text_of}
 use Rattle.sfm_cert.specs.Labels.{label_in}
-use Rattle.sfm_cert.specs.Lines.{row_line}
-use Rattle.sfm_cert.specs.LineLists.{counted, numbered, block_lines, slope_lines, base_lines, break_lines}
+use Rattle.sfm_cert.specs.LineLists.{row_line, counted, numbered, block_lines, slope_lines, base_lines, break_lines}
 use Rattle.sfm_cert.specs.Form.{AreFormedRows, IsFormed, IsFormedBlock, IsFormedBreak}
 use Rattle.sfm_cert.proofs.Labels.{AreFewLines, count_short, label_short}
 

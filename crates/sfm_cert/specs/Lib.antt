@@ -7,9 +7,4 @@ pub mod Few
 pub mod Form
 pub mod Grammar
 pub mod Solved
-pub mod Reading
-pub mod Lists
-pub mod Lines
 pub mod Pages
-pub mod Parts
-pub mod Slots

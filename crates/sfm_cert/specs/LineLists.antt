@@ -1,13 +1,12 @@
 -- The lists of the numbers and of the lines of an answer, each by its own word: the code writes and reads each one by one.
-use Rattle.std.specs.Prelude.{ℕ, List, codes, map, decimal, ℤ}
+use Rattle.std.specs.Prelude.{ℕ, List, [], ◌∷◌, ◌++◌, codes, map, decimal, ℤ}
 use Rattle.std.specs.List.{enumerate_from, flat_map}
 use Rattle.std.specs.Fmt.{signed_decimal}
 use Rattle.sfm_spec.specs.Blocks.{Block}
-use Rattle.sfm_cert.specs.Answer.{Answer, Break, Form, answer_lines, block_line, row_lines, section_lines, slope_line, spaced, text_of}
+use Rattle.sfm_cert.specs.Answer.{Answer, Break, Form, answer_lines, block_line, listed, row_lines, section_lines, slope_line, spaced, text_of}
 use Rattle.sfm_cert.specs.Form.{IsFormed}
 use Rattle.sfm_cert.specs.Grammar.{IsBadLineOf, IsTextBy}
 use Rattle.sfm_cert.specs.Labels.{label_in}
-use Rattle.sfm_cert.specs.Lines.{row_line}
 
 -- counts, each behind a space
 abbrev pub counted : List ℕ → List ℕ
@@ -17,6 +16,10 @@ counted x = spaced decimal x
 abbrev pub numbered : List ℤ → List ℕ
 numbered x = spaced signed_decimal x
 
+-- the four lines before the blocks
+abbrev pub first_lines : Form → Answer → List (List ℕ)
+first_lines form a = form.header ∷ (codes "minimum " ++ signed_decimal a.value) ∷ (codes "least" ++ listed form.names a.least) ∷ (codes "greatest" ++ listed form.names a.greatest) ∷ []
+
 -- a line for each block, numbered on from i
 abbrev pub block_lines : List (List ℕ) → ℕ → List Block → List (List ℕ)
 block_lines names i blocks = map (λ (i, block). block_line names i block) (enumerate_from i blocks)
@@ -24,6 +27,10 @@ block_lines names i blocks = map (λ (i, block). block_line names i block) (enum
 -- the lines of all slopes
 abbrev pub slope_lines : List (List ℕ) → List Break → List (List ℕ)
 slope_lines names breaks = map (slope_line names) breaks
+
+-- the line of a row of numbers: a word, a label, and the numbers
+abbrev pub row_line : List ℕ → List ℕ → List ℤ → List ℕ
+row_line word label x = word ++ label ++ spaced signed_decimal x
 
 -- the line of a base: the label of its term, and its entries
 abbrev pub base_line : List ℕ → ℕ → List ℤ → List ℕ

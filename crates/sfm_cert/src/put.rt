@@ -2,7 +2,7 @@
 ghost use Rattle.std.specs.{Prelude.{◌≡◌, ℕ, ◌+◌, ◌<◌, List, [], ◌∷◌, ◌++◌, length, map}, Fmt.{decimal, signed_decimal}, List.{All}};
 ghost use Rattle.sfm_spec.specs.{Bounds.{IsEntry}, Blocks.{block_at}};
 ghost use Rattle.sfm_extreme.specs.Blocks.{block_of};
-ghost use Rattle.sfm_cert.specs.{Answer.{listed, slope_text, at_line, block_line, slope_line, row_lines, section_lines, text_of}, LineLists.{counted, numbered, block_lines, slope_lines}, Form.{AreFormedRows}, Solved.{break_of}, Lines.{row_line}, Spots.{spot_label}};
+ghost use Rattle.sfm_cert.specs.{Answer.{listed, slope_text, at_line, block_line, slope_line, row_lines, section_lines, text_of}, LineLists.{counted, numbered, block_lines, slope_lines, row_line}, Form.{AreFormedRows}, Solved.{break_of}, Spots.{spot_label}};
 
 use crate::out::Out;
 use crate::spot::Spot;

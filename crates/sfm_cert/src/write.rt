@@ -4,7 +4,7 @@
 // where elements have sizes.
 ghost use Rattle.std.specs.{Prelude.{◌≡◌, ◌-◌, ◌≤◌, ◌++◌, codes, length, map, pos, IfOk}, List.{All}};
 ghost use Rattle.sfm_spec.specs.Bounds.{IsEntry};
-ghost use Rattle.sfm_cert.specs.{Answer.{head_lines, text_of}, Header.{header_text}, LineLists.{answer_text, break_lines}, Reading.{first_lines}, Few.{HasFewLines}, Form.{AreFormedRows, IsFormed}, Solved.{answer_of, break_of, form_of, form_with}};
+ghost use Rattle.sfm_cert.specs.{Answer.{head_lines, text_of}, Header.{header_text}, LineLists.{answer_text, break_lines, first_lines}, Few.{HasFewLines}, Form.{AreFormedRows, IsFormed}, Solved.{answer_of, break_of, form_of, form_with}};
 
 use crate::header::Header;
 use crate::out::{Gauge, Out};

@@ -8,9 +8,9 @@ use Rattle.sfm_spec.specs.Blocks.{Block}
 use Rattle.sfm_kind.specs.Names.{AreElementNames}
 use Rattle.sfm_cert.specs.Answer.{block_line, listed, slope_text}
 use Rattle.sfm_cert.specs.Form.{IsFormedBlock}
-use Rattle.sfm_cert.proofs.Tokens.{same_front, slope_text-plain, slope_text-same}
-use Rattle.sfm_cert.proofs.LineForms.{list_stop, slope_line_cut}
-use Rattle.sfm_cert.proofs.Unique.{block_line-same as by_line, listed-same}
+use Rattle.sfm_readback.proofs.Tokens.{same_front, slope_text-plain, slope_text-same}
+use Rattle.sfm_readback.proofs.LineForms.{list_stop, slope_line_cut}
+use Rattle.sfm_readback.proofs.Unique.{block_line-same as by_line, listed-same}
 
 -- what is asked of the marks whose lines are told apart
 pub record IsPlainMark (names : List (List ℕ)) (m : Mark) : Type 0 where

@@ -12,7 +12,7 @@ use Rattle.sfm_kind.specs.Names.{AreElementNames}
 use Rattle.sfm_cert.specs.Answer.{Answer, Form, mark_of, answer_lines, text_of}
 use Rattle.sfm_cert.specs.Grammar.{IsLine, answer_limit}
 use Rattle.sfm_cert.specs.LineLists.{IsAnswerText}
-use Rattle.sfm_cert.proofs.OneAnswer.{one_answer}
+use Rattle.sfm_readback.proofs.OneAnswer.{one_answer}
 use Rattle.sfm_check.specs.Truth.{IsProvedSection, IsRightFile, IsTrueHead, section_at, sections_of}
 use Rattle.sfm_check.specs.declared.verdicts.Wrong.TheVariants.{Long, Grammar, Base, Unproved, Answer as AnswerLine}
 use Rattle.sfm_check.specs.declared.verdicts.Verdict.{Verdict}

@@ -12,7 +12,7 @@ use Rattle.sfm_cert.specs.Form.{IsFormedBlock}
 use Rattle.sfm_check.specs.Verdict.{due_lines}
 use Rattle.sfm_check.specs.Findings.{IsFirstUnlike, IsWrongLine}
 use Rattle.sfm_check.proofs.Forming.{length-block_lines, length-slope_lines}
-use Rattle.sfm_cert.proofs.Unique.{listed-same}
+use Rattle.sfm_readback.proofs.Unique.{listed-same}
 use Rattle.sfm_check.proofs.OneToOne.{IsPlainMark, block_line-same, slope_line-apart}
 use Rattle.sfm_spec.specs.Laws.{Mark}
 use Rattle.sfm_spec.specs.Search.{mark_at}

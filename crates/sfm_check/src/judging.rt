@@ -15,8 +15,9 @@ use crate::right::is_right;
 use crate::sections::{Sections, prove_sections};
 use crate::verdicts::{Verdict, Wrong};
 use sfm_base::Memory;
-use sfm_cert::{ANSWER_LIMIT, AnswerEnd, Header, Solved, read_with};
+use sfm_cert::{AnswerEnd, Header, Solved};
 use sfm_kind::Instance;
+use sfm_readback::{ANSWER_LIMIT, read_with};
 use sfm_sizes::ones;
 use std::alloc::Global;
 

@@ -7,16 +7,15 @@ use Rattle.std.proofs.lemmas.List.Elements.{All-nil, All-cons, All-append}
 use Rattle.sfm_spec.specs.Bounds.{IsEntry}
 use Rattle.sfm_spec.specs.Names.{IsName}
 use Rattle.sfm_cert.specs.Answer.{Form, listed, row_lines, text_of}
-use Rattle.sfm_cert.specs.Lines.{row_line}
-use Rattle.sfm_cert.specs.LineLists.{numbered}
+use Rattle.sfm_cert.specs.LineLists.{row_line, numbered}
 use Rattle.sfm_cert.specs.Form.{AreFormedRows}
 use Rattle.sfm_cert.specs.Grammar.{BeginsOne, IsBadLineOf, IsLine}
-use Rattle.sfm_cert.specs.Reading.{LeadsOnBy, StopsBy}
-use Rattle.sfm_cert.specs.Slots.{Slot, exact, value, set, row, FillsNext, IsCleanSlot, row_slots}
-use Rattle.sfm_cert.specs.declared.cursor.Cursor.{Cursor}
-use Rattle.sfm_cert.proofs.CleanLines.{joined, listed_line, number_line, numbered_line, word_line}
-use Rattle.sfm_cert.proofs.Rules.{leads-append, first_bad, one_list}
-use Rattle.sfm_cert.proofs.Slots.{one_way, are_clean, goes_on, rows_fill, hold_rows, clean_rows}
+use Rattle.sfm_readback.specs.Reading.{LeadsOnBy, StopsBy}
+use Rattle.sfm_readback.specs.Slots.{Slot, exact, value, set, row, FillsNext, IsCleanSlot, row_slots}
+use Rattle.sfm_readback.specs.declared.cursor.Cursor.{Cursor}
+use Rattle.sfm_readback.proofs.CleanLines.{joined, listed_line, number_line, numbered_line, word_line}
+use Rattle.sfm_readback.proofs.Rules.{leads-append, first_bad, one_list}
+use Rattle.sfm_readback.proofs.Slots.{one_way, are_clean, goes_on, rows_fill, hold_rows, clean_rows}
 use Rattle.sfm_meet.specs.Met.{MetAnswer}
 use Rattle.sfm_met.specs.MetText.{IsFormedMet, met_lines}
 use Rattle.sfm_met.specs.MetSlots.{slots_of, base_slots, right_slots}

@@ -7,8 +7,8 @@ use Rattle.sfm_spec.specs.Bounds.{IsEntry}
 use Rattle.sfm_kind.specs.Names.{AreElementNames}
 use Rattle.sfm_cert.specs.Answer.{Form, row_lines}
 use Rattle.sfm_cert.specs.Labels.{label_in}
-use Rattle.sfm_cert.specs.Lines.{row_line}
-use Rattle.sfm_cert.proofs.Unique.{row_line-same, set_line-same, value_line-same}
+use Rattle.sfm_cert.specs.LineLists.{row_line}
+use Rattle.sfm_readback.proofs.Unique.{row_line-same, set_line-same, value_line-same}
 use Rattle.sfm_meet.specs.Met.{MetAnswer}
 use Rattle.sfm_met.specs.MetText.{met_lines}
 use Rattle.sfm_met.specs.MetReading.{IsMetText}

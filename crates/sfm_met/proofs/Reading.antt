@@ -7,14 +7,15 @@ use Rattle.std.proofs.lemmas.List.Elements.{All-nil, All-push}
 use Rattle.sfm_spec.specs.Bounds.{IsEntry}
 use Rattle.sfm_cert.specs.Answer.{Form, row_lines}
 use Rattle.sfm_cert.specs.Labels.{label_in}
-use Rattle.sfm_cert.specs.Lines.{IsRowLine, IsSetLine, IsValueLine, row_line}
-use Rattle.sfm_cert.specs.Reading.{EndsAtBy, EndsStuck, ReadsBy, Takes, TakesSome}
-use Rattle.sfm_cert.specs.Slots.{FillsNext, Slot, exact, row, row_slots, set, value}
-use Rattle.sfm_cert.specs.declared.cursor.Cursor.{Cursor}
+use Rattle.sfm_cert.specs.LineLists.{row_line}
 use Rattle.sfm_cert.specs.declared.solved.AnswerEnd.{AnswerEnd}
 use Rattle.sfm_cert.proofs.AnswerLines.{row_lines-push}
-use Rattle.sfm_cert.proofs.Ends.{passed_on, reads_begin, reads_more}
-use Rattle.sfm_cert.proofs.Slots.{slot_read, slot_stuck}
+use Rattle.sfm_readback.specs.Lines.{IsRowLine, IsSetLine, IsValueLine}
+use Rattle.sfm_readback.specs.Reading.{EndsAtBy, EndsStuck, ReadsBy, Takes, TakesSome}
+use Rattle.sfm_readback.specs.Slots.{FillsNext, Slot, exact, row, row_slots, set, value}
+use Rattle.sfm_readback.specs.declared.cursor.Cursor.{Cursor}
+use Rattle.sfm_readback.proofs.Ends.{passed_on, reads_begin, reads_more}
+use Rattle.sfm_readback.proofs.Slots.{slot_read, slot_stuck}
 use Rattle.sfm_met.specs.MetSlots.{told_slots}
 use Rattle.sfm_met.specs.MetReading.{ReadsSide, ReadsTold}
 

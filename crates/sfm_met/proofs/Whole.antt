@@ -6,13 +6,13 @@ use Rattle.std.proofs.lemmas.List.{append-nil, drop_all}
 use Rattle.sfm_spec.specs.Names.{IsName}
 use Rattle.sfm_cert.specs.Answer.{Form, row_lines, text_of}
 use Rattle.sfm_cert.specs.Grammar.{IsBadLineOf}
-use Rattle.sfm_cert.specs.Reading.{EndsAtBy, EndsStuck, ReadsBy, Takes}
-use Rattle.sfm_cert.specs.Slots.{FillsNext, Slot, exact}
-use Rattle.sfm_cert.specs.declared.cursor.Cursor.{Cursor}
 use Rattle.sfm_cert.specs.declared.solved.AnswerEnd.{AnswerEnd}
 use Rattle.sfm_cert.specs.declared.solved.AnswerEnd.TheVariants.{BadLine, Memory}
-use Rattle.sfm_cert.proofs.Ends.{passed_on, reads_more, reads_then, stops_then}
-use Rattle.sfm_cert.proofs.Slots.{slot_stuck}
+use Rattle.sfm_readback.specs.Reading.{EndsAtBy, EndsStuck, ReadsBy, Takes}
+use Rattle.sfm_readback.specs.Slots.{FillsNext, Slot, exact}
+use Rattle.sfm_readback.specs.declared.cursor.Cursor.{Cursor}
+use Rattle.sfm_readback.proofs.Ends.{passed_on, reads_more, reads_then, stops_then}
+use Rattle.sfm_readback.proofs.Slots.{slot_stuck}
 use Rattle.sfm_met.specs.MetText.{IsFormedMet, met_lines}
 use Rattle.sfm_met.specs.MetSlots.{base_slots, right_slots, slots_of, told_head}
 use Rattle.sfm_met.specs.MetReading.{IsBadMetEnd, ReadsSide, ReadsTold, IsMetText}

@@ -5,11 +5,11 @@ use Rattle.sfm_spec.specs.Bounds.{IsEntry}
 use Rattle.sfm_cert.specs.Answer.{Form, row_lines}
 use Rattle.sfm_cert.specs.Form.{AreFormedRows}
 use Rattle.sfm_cert.specs.Grammar.{IsBadLineOf, IsTextBy}
-use Rattle.sfm_cert.specs.Reading.{ReadsBy}
-use Rattle.sfm_cert.specs.Slots.{FillsNext, Slot, row_slots}
-use Rattle.sfm_cert.specs.declared.cursor.Cursor.{Cursor}
 use Rattle.sfm_cert.specs.declared.solved.AnswerEnd.{AnswerEnd}
 use Rattle.sfm_cert.specs.declared.solved.AnswerEnd.TheVariants.{BadLine, Memory}
+use Rattle.sfm_readback.specs.Reading.{ReadsBy}
+use Rattle.sfm_readback.specs.Slots.{FillsNext, Slot, row_slots}
+use Rattle.sfm_readback.specs.declared.cursor.Cursor.{Cursor}
 use Rattle.sfm_meet.specs.Met.{MetAnswer}
 use Rattle.sfm_met.specs.MetText.{IsFormedMet, met_lines}
 use Rattle.sfm_met.specs.MetSlots.{told_head, told_slots}

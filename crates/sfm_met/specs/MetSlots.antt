@@ -2,8 +2,8 @@
 use Rattle.std.specs.Prelude.{ℕ, Bool, List, [], ◌∷◌, ◌++◌, codes, length, ℤ}
 use Rattle.std.specs.Fmt.{signed_decimal}
 use Rattle.sfm_cert.specs.Answer.{Form, listed}
-use Rattle.sfm_cert.specs.Lines.{row_line}
-use Rattle.sfm_cert.specs.Slots.{Slot, exact, value, set, row, row_slots}
+use Rattle.sfm_cert.specs.LineLists.{row_line}
+use Rattle.sfm_readback.specs.Slots.{Slot, exact, value, set, row, row_slots}
 use Rattle.sfm_meet.specs.Met.{MetAnswer}
 
 -- the four lines before the bases

@@ -8,11 +8,12 @@ ghost use Rattle.sfm_met.specs.{MetText.{IsFormedMet}, MetVerdict.{IsFirstNoMetB
 
 use crate::read::read_met;
 use sfm_base::{Memory, Set};
-use sfm_cert::{ANSWER_LIMIT, AnswerEnd};
+use sfm_cert::AnswerEnd;
 use sfm_check::{Verdict, Wrong, are_same, first_no_base_in};
 use sfm_kind::Instance;
 use sfm_law::has_sum;
 use sfm_meet::{Met, proved_split};
+use sfm_readback::ANSWER_LIMIT;
 use std::alloc::Global;
 
 /// The line of the first row that is no base of its term: those of the left stand before those of the right.

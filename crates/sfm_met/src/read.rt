@@ -1,14 +1,16 @@
 // Reading a text: each line is of a kind that is known beforehand, so the first that is not read is the first bad one.
 ghost use Rattle.std.specs.Prelude.{◌≡◌, ℕ, ◌≤◌, List, [], ◌++◌, length, ℤ, IfOk, IfErr};
-ghost use Rattle.sfm_cert.specs.{Reading.{EndsAtBy}, Slots.{FillsNext, Slot, row_slots}, Solved.{form_of}};
+ghost use Rattle.sfm_cert.specs.Solved.{form_of};
+ghost use Rattle.sfm_readback.specs.{Reading.{EndsAtBy}, Slots.{FillsNext, Slot, row_slots}};
 ghost use Rattle.sfm_meet.specs.Told.{met_of};
 ghost use Rattle.sfm_met.specs.{MetSlots.{told_slots}, MetReading.{IsBadMetEnd, ReadsSide, ReadsTold, IsMetText}};
 
 use sfm_base::{Numbers, Rows, Set};
-use sfm_cert::{AnswerEnd, Cursor, Spot, expect, read_labelled, read_row, read_set, read_value};
+use sfm_cert::{AnswerEnd, Spot};
 use sfm_kind::Instance;
 use sfm_law::Term;
 use sfm_meet::{Bases, Met};
+use sfm_readback::{Cursor, expect, read_labelled, read_row, read_set, read_value};
 use std::alloc::Global;
 
 /// A line of this word for each term of an instance.

@@ -13,7 +13,6 @@ use crate::open::{
     Opened, open_edits, open_instance, open_left, open_level, open_pins, open_right, open_sizes,
 };
 use sfm_base::Memory;
-use sfm_cert::ANSWER_LIMIT;
 use sfm_due::{
     Due, Status, due_to_ask, due_to_check, due_to_check_weighed, due_to_demo, due_to_level,
     due_to_solve, due_to_weigh, read_text,
@@ -21,6 +20,7 @@ use sfm_due::{
 use sfm_io::Shelf;
 use sfm_kind::Instance;
 use sfm_pair::{due_to_meet, due_to_met};
+use sfm_readback::ANSWER_LIMIT;
 use sfm_text::Numbered;
 use sfm_words::Command;
 use std::alloc::Global;

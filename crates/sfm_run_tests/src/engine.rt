@@ -6,10 +6,10 @@ ghost use Rattle.sfm_kind.specs.Kinds.{kind_places, kind_size, kind_value};
 ghost use Rattle.sfm_cert.specs.Form.{AreFormedRows};
 
 use sfm_base::{Memory, Rows, Set, Steps};
-use sfm_cert::read_answer;
 use sfm_extreme::{Block, Certified, blocks, certify};
 use sfm_kind::{Instance, Kind};
 use sfm_law::{Term, start_rows};
+use sfm_readback::read_answer;
 use sfm_text::read_instance;
 use sfm_walk::{minimise, minimise_counted};
 use std::alloc::Global;

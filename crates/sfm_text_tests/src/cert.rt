@@ -2,10 +2,9 @@
 // bad at its line.
 ghost use Rattle.sfm_cert.specs.{Form.{IsFormed}, Solved.{answer_of, form_of}};
 
-use sfm_cert::{
-    AnswerEnd, Solved, answer_len, line_of_at, line_of_base, read_answer, write_answer,
-};
+use sfm_cert::{AnswerEnd, Solved, answer_len, line_of_at, line_of_base, write_answer};
 use sfm_kind::Instance;
+use sfm_readback::read_answer;
 use sfm_text::read_instance;
 use std::alloc::Global;
 use std::process::Abort;

@@ -2,7 +2,7 @@ use Rattle.std.proofs.Common.{◌≡◌, ◌++◌, ◌∷◌, ◌+◌, ◌<◌, 
 use Rattle.std.proofs.lemmas.List.{take_more}
 use Rattle.sfm_cert.specs.Answer.{row_lines, text_of}
 use Rattle.sfm_cert.specs.Labels.{label_in, labels_of}
-use Rattle.sfm_cert.specs.Lines.{row_line}
+use Rattle.sfm_cert.specs.LineLists.{row_line}
 use Rattle.sfm_cert.specs.Spots.{spot_label}
 use Rattle.sfm_cert.proofs.AnswerLines.{row_lines-push}
 use Rattle.sfm_cert.proofs.InstanceLengths.{few_lines_of}

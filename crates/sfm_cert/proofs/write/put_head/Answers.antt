@@ -1,8 +1,7 @@
 use Rattle.std.proofs.Common.{map}
 use Rattle.sfm_extreme.specs.Blocks.{block_of}
 use Rattle.sfm_cert.specs.Header.{header_text}
-use Rattle.sfm_cert.specs.LineLists.{block_lines, slope_lines}
-use Rattle.sfm_cert.specs.Reading.{first_lines}
+use Rattle.sfm_cert.specs.LineLists.{block_lines, slope_lines, first_lines}
 use Rattle.sfm_cert.specs.Solved.{answer_of, break_of, form_with}
 use Rattle.sfm_cert.proofs.Pieces.{three_lines}
 use Rattle.sfm_cert.proofs.write.put_head.Goals as goal

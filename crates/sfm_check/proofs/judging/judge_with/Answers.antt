@@ -5,7 +5,7 @@ use Rattle.sfm_kind.specs.Kinds.{kind_places, kind_value}
 use Rattle.sfm_cert.specs.Header.{header_text}
 use Rattle.sfm_cert.specs.Solved.{answer_of, form_with}
 use Rattle.sfm_cert.proofs.AnyHeader.{formed_any}
-use Rattle.sfm_cert.proofs.BadLines.{header_line}
+use Rattle.sfm_readback.proofs.BadLines.{header_line}
 use Rattle.sfm_check.proofs.AllSlopes.{fit}
 use Rattle.sfm_check.proofs.Short.{right_short}
 use Rattle.sfm_check.proofs.Telling.{few_by_text, found_verdict}

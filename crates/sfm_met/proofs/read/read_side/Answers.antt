@@ -2,13 +2,13 @@ use Rattle.std.proofs.Common.{◌≡◌, ◌<◌, ◌+◌, ◌^◌, ℤ, ℕ, Li
 use Rattle.std.proofs.lemmas.List.{length-map}
 use Rattle.sfm_kind.specs.Kinds.{kind_places}
 use Rattle.sfm_cert.specs.Labels.{label_in, labels_of}
-use Rattle.sfm_cert.specs.Lines.{IsRowLine}
-use Rattle.sfm_cert.specs.Reading.{EndsStuck, TakesSome}
 use Rattle.sfm_cert.specs.Solved.{form_of}
 use Rattle.sfm_cert.specs.Spots.{spot_label}
 use Rattle.sfm_cert.proofs.AnswerLines.{item_at}
 use Rattle.sfm_cert.proofs.InstanceLengths.{few_lines_of}
 use Rattle.sfm_cert.proofs.Labels.{length-labels, stands_before, stands_label}
+use Rattle.sfm_readback.specs.Lines.{IsRowLine}
+use Rattle.sfm_readback.specs.Reading.{EndsStuck, TakesSome}
 use Rattle.sfm_met.proofs.Reading.{IsDue, RowsSoFar, rows_begin, rows_more, rows_stop, rows_end}
 use Rattle.sfm_met.proofs.read.read_side.Goals.{After-elements-width}
 use Rattle.sfm_met.proofs.read.read_side.Goals as goal

@@ -1,5 +1,0 @@
-use Rattle.sfm_cert.proofs.Tokens.{entry_read}
-use Rattle.sfm_cert.proofs.numbers.read_entry.Goals as goal
-
-pub returns : goal.returns
-returns c = entry_read c.args.bytes.now c.read_number.result c.read_number.ensures
