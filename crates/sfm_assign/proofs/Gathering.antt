@@ -6,8 +6,8 @@ use Rattle.sfm_spec.specs.Sets.{Has, IsWithin, empty_set, union}
 use Rattle.sfm_spec.proofs.Lattice.{none_in_empty}
 use Rattle.sfm_spec.proofs.Sets.{in_union, union_left, union_right}
 use Rattle.sfm_spec.proofs.Sums.{length-union}
-use Rattle.sfm_split.specs.Splits.{amount_at}
-use Rattle.sfm_split.specs.Cells.{label_at}
+use Rattle.sfm_cells.specs.Splits.{amount_at}
+use Rattle.sfm_cells.specs.Cells.{label_at}
 use Rattle.sfm_assign.specs.Spread.{IsStepClosed, LeadsTo, AreLedTo, LeadsToRoom, IsAnswer, IsHeldBy, Holds, IsFullClosed, AreTakenIn, HeldWithRoom, IsPutTo}
 use Rattle.sfm_assign.specs.declared.spread.Answer.{Answer}
 use Rattle.sfm_assign.specs.declared.spread.Answer.TheVariants.{Room, Full}

@@ -6,13 +6,14 @@ use Rattle.std.proofs.lemmas.Bool.{cases_eq, false≢true}
 use Rattle.std.proofs.lemmas.List.{length-replicate}
 use Rattle.sfm_spec.specs.Sets.{Has}
 use Rattle.sfm_spec.proofs.Sets.{has_or_not}
-use Rattle.sfm_split.specs.Splits.{amount_at, CanBeMet, Demands, AreDemands}
-use Rattle.sfm_split.specs.Cells.{joined, owners, label_at, AreCells, AreMet, IsPart, IsMet, IsClosed}
-use Rattle.sfm_split.specs.Search.{AreLeft, only, node_at, IsFound, IsStuck, IsFoundSet, HasRoots, IsFilled, one_more, AreLenders}
+use Rattle.sfm_cells.specs.Splits.{amount_at, CanBeMet, Demands, AreDemands}
+use Rattle.sfm_cells.specs.Cells.{joined, owners, label_at, AreCells, AreMet, IsPart, IsMet, IsClosed, only, IsFilled}
+use Rattle.sfm_cells.specs.Left.{AreLeft}
+use Rattle.sfm_split.specs.Search.{node_at, IsFound, IsStuck, IsFoundSet, HasRoots, one_more, AreLenders}
 use Rattle.sfm_assign.specs.Spread.{IsStepClosed, AreLedTo, LeadsToRoom, AreAsking}
-use Rattle.sfm_split.specs.Lenders.{IsLender}
+use Rattle.sfm_cells.specs.Lenders.{IsLender}
+use Rattle.sfm_cells.proofs.Outcomes.{cells_for, changed-other}
 use Rattle.sfm_split.specs.declared.nodes.Node.{Node}
-use Rattle.sfm_split.proofs.Outcomes.{cells_for, changed-other}
 use Rattle.sfm_split.proofs.Searches.{some_apart}
 use Rattle.sfm_split.proofs.Filling.{found_exists, Searched, searched}
 use Rattle.sfm_split.proofs.Lending.{GetsOne, raise_one, lend_one}

@@ -9,8 +9,8 @@ use Rattle.sfm_spec.proofs.Lattice.{none_in_empty}
 use Rattle.sfm_spec.proofs.Sets.{in_union, union_left, union_right, has_or_not}
 use Rattle.sfm_spec.proofs.Sizes.{size_within, size_below_length}
 use Rattle.sfm_spec.proofs.Sums.{length-union}
-use Rattle.sfm_split.specs.Splits.{amount_at}
-use Rattle.sfm_split.specs.Cells.{label_at}
+use Rattle.sfm_cells.specs.Splits.{amount_at}
+use Rattle.sfm_cells.specs.Cells.{label_at}
 use Rattle.sfm_assign.specs.Spread.{LeadsTo, AreLedTo, LeadsToRoom, IsAnswer, AreAnswers, AreTold, answer_at, IsSettled, Waits, IsSpread, IsJoin, IsWider}
 use Rattle.sfm_assign.specs.declared.spread.Answer.{Answer}
 use Rattle.sfm_assign.specs.declared.spread.Answer.TheVariants.{Room, Full}

@@ -7,7 +7,7 @@ ghost use Rattle.sfm_assign.specs.{Spread.{AreTold, IsKnown, AreLedTo, LeadsToRo
 use crate::spread::{Answer, Spread, find_answer};
 use crate::told::Told;
 use sfm_base::{Memory, Set};
-use sfm_split::Shares;
+use sfm_cells::Shares;
 use std::alloc::Global;
 
 /// A split as it stands: the amounts on its cells, and what its slots have left.

@@ -2,11 +2,11 @@
 // as much as it can get besides. No demand can get more than all slots have together, so that serves as the limit.
 ghost use Rattle.std.specs.{Prelude.{◌≡◌, ◌<◌, ◌≤◌, ◌^◌, length, slice_set, pos, IfOk}, List.{All}};
 ghost use Rattle.sfm_spec.specs.Bounds.{total_of};
-ghost use Rattle.sfm_split.specs.Splits.{IsAmount, IsCapacity, CanBeMet, IsMost};
+ghost use Rattle.sfm_cells.specs.Splits.{IsAmount, IsCapacity, CanBeMet, IsMost};
 
 use crate::kept::Kept;
 use sfm_base::Memory;
-use sfm_split::Demand;
+use sfm_cells::Demand;
 use std::alloc::Global;
 
 /// The sum of the capacities.

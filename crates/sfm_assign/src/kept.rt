@@ -6,17 +6,16 @@
 // taken once there is enough.
 ghost use Rattle.std.specs.{Prelude.{◌≡◌, ◌↔◌, ℕ, ◌<◌, ◌≤◌, true, false, length, map, slice_set, pos, ◌*ℤ◌, ◌+ℤ◌, ◌≤ℤ◌, ◌<ℤ◌, IsTrue, IfOk, OnOk, OnErr, MatchResult, MatchBool, None, []}, List.{All}};
 ghost use Rattle.sfm_spec.specs.Sets.{Has};
-ghost use Rattle.sfm_split.specs.{Splits.{amount_at, CanBeMet, IsAmount, IsCapacity, AreDemands}, Cells.{AreMet}, Search.{AreLeft}, Ends.{IsAssignEnd}, Grown.{IsGrown}, Lenders.{IsLender, with_more, IsMostUpto}};
+ghost use Rattle.sfm_cells.specs.{Splits.{amount_at, CanBeMet, IsAmount, IsCapacity, AreDemands}, Cells.{AreMet}, Left.{AreLeft}, Lenders.{IsLender, with_more, IsMostUpto}};
+ghost use Rattle.sfm_split.specs.{Ends.{IsAssignEnd}, Grown.{IsGrown}};
 ghost use Rattle.sfm_assign.specs.Spread.{answer_at, AreAnswers, AreAsking, LeadsToRoom, AreLedTo};
 
 use crate::gather::{Standing, gather};
 use crate::spread::Spread;
 use crate::told::Told;
 use sfm_base::{Memory, Set};
-use sfm_split::{
-    Aim, AssignEnd, Demand, Shares, Work, begin, copy_times, find_amounts, left_of, met_shares,
-    raise_most,
-};
+use sfm_cells::{Demand, Shares, copy_times, left_of};
+use sfm_split::{Aim, AssignEnd, Work, begin, find_amounts, met_shares, raise_most};
 use std::alloc::Global;
 use std::mem;
 

@@ -10,4 +10,5 @@ mod told;
 
 pub use greatest::most;
 pub use kept::Kept;
-pub use sfm_split::{Aim, AssignEnd, Demand, Split, assign};
+pub use sfm_cells::Demand;
+pub use sfm_split::{Aim, AssignEnd, Split, assign};

@@ -1,5 +1,5 @@
 // What a split that is kept tells of its demands: that they can be met.
-ghost use Rattle.sfm_split.specs.Splits.{CanBeMet};
+ghost use Rattle.sfm_cells.specs.Splits.{CanBeMet};
 
 use crate::kept::Kept;
 

@@ -6,11 +6,12 @@
 // more: once there is as much as was wanted before, none is taken.
 ghost use Rattle.std.specs.Prelude.{◌≡◌, ℕ, ◌+◌, ◌<◌, Bool, List, [], ◌∷◌, ◌++◌, true, length, slice_set, pos, ◌≤ℤ◌, IfOk, OnOk, MatchOption};
 ghost use Rattle.sfm_spec.specs.Sets.{Has, empty_set, union};
-ghost use Rattle.sfm_split.specs.{Splits.{amount_at}, Cells.{label_at}};
+ghost use Rattle.sfm_cells.specs.{Splits.{amount_at}, Cells.{label_at}};
 ghost use Rattle.sfm_assign.specs.{declared.spread.Answer.TheVariants.{Full}, Spread.{IsAnswer, AreTold, IsSpread, IsJoin, IsWider}};
 
 use sfm_base::{Memory, Set};
-use sfm_split::{Link, Shares};
+use sfm_cells::Shares;
+use sfm_split::Link;
 use std::alloc::Global;
 use std::mem;
 

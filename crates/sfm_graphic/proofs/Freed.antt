@@ -12,8 +12,8 @@ use Rattle.sfm_spec.proofs.Scaled.{times-mono}
 use Rattle.sfm_rank.proofs.Members.{has_place}
 use Rattle.sfm_law.proofs.Monotone.{AreCounts}
 use Rattle.sfm_assign.specs.Splits.{slots_of, CanBeMet, IsCapacity}
-use Rattle.sfm_split.proofs.Hall.{hall_easy}
-use Rattle.sfm_split.proofs.Rows.{AreBelow, length-slots_of}
+use Rattle.sfm_cells.proofs.Hall.{hall_easy}
+use Rattle.sfm_cells.proofs.Rows.{AreBelow, length-slots_of}
 use Rattle.sfm_graphic.specs.Cuts.{touches, ends_but, IsWithinEnds}
 use Rattle.sfm_graphic.specs.Graphs.{EndsBelow}
 use Rattle.sfm_graphic.specs.Notes.{AreFreed}

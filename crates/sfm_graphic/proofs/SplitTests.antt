@@ -9,8 +9,8 @@ use Rattle.std.proofs.lemmas.List.{length-replicate, get_or-replicate}
 use Rattle.sfm_spec.specs.Sets.{sum_over}
 use Rattle.sfm_spec.specs.Kinds.{Edge}
 use Rattle.sfm_assign.specs.Splits.{slots_of, CanBeMet}
-use Rattle.sfm_split.proofs.Rows.{AreBelow, length-slots_of}
-use Rattle.sfm_split.proofs.Hall.{hall_easy}
+use Rattle.sfm_cells.proofs.Rows.{AreBelow, length-slots_of}
+use Rattle.sfm_cells.proofs.Hall.{hall_easy}
 use Rattle.sfm_split.proofs.Filling.{hall}
 use Rattle.sfm_law.proofs.Monotone.{AreCounts}
 use Rattle.sfm_matroid.specs.Counts.{count_below}

@@ -2,12 +2,12 @@
 use Rattle.std.proofs.Common.{◌≡◌, ℕ, ◌<◌, ◌≤◌, List, length, set, ℤ, pos, neg_ℤ, ◌+ℤ◌, ◌-ℤ◌, ◌≤ℤ◌, if◌then◌else◌, true, false, nat_eq, Option, Some, None, refl, sym, ap, ◌∙◌, arith, ⊎_elim, length-set, get_or-set_other, get_or-set_same}
 use Rattle.std.proofs.lemmas.Int.{ints}
 use Rattle.std.proofs.lemmas.Bool.{cases_eq}
-use Rattle.sfm_split.specs.Splits.{sum_at, amount_at}
-use Rattle.sfm_split.specs.Cells.{label_at, AreCells}
-use Rattle.sfm_split.specs.Search.{only, node_at, IsBranch, AreBranches, Carries, IsRaised}
+use Rattle.sfm_cells.specs.Splits.{sum_at, amount_at}
+use Rattle.sfm_cells.specs.Cells.{label_at, AreCells, only}
+use Rattle.sfm_cells.proofs.Amounts.{AreAmounts, sum_at-set, sum_at-holds, only-same, only-other}
+use Rattle.sfm_split.specs.Search.{node_at, IsBranch, AreBranches, Carries, IsRaised}
 use Rattle.sfm_split.specs.declared.nodes.Link.{Link}
 use Rattle.sfm_split.specs.declared.nodes.Node.{Node}
-use Rattle.sfm_split.proofs.Amounts.{AreAmounts, sum_at-set, sum_at-holds, only-same, only-other}
 use Rattle.sfm_split.proofs.Ways.{carries_here, carries_on, carries_end}
 
 -- an amount that the demand `who` holds too much, on its way from the last cell

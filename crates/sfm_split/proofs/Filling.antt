@@ -6,19 +6,20 @@ use Rattle.std.proofs.lemmas.Bool.{cases_lt, false≢true}
 use Rattle.std.proofs.lemmas.List.{length-replicate}
 use Rattle.sfm_spec.specs.Sets.{Has, sum_over}
 use Rattle.sfm_spec.specs.Bounds.{total_of}
-use Rattle.sfm_split.specs.Splits.{sum_at, amount_at, slots_of, CanBeMet, IsShort}
-use Rattle.sfm_split.specs.Cells.{joined, owners, cut, label_at, AreCells, IsPart}
-use Rattle.sfm_split.specs.Search.{AreLeft, node_at, missing, IsFound, IsNode, AreNodes, AreBranches, IsRoot, AreRootsOf, IsMarkOf, IsEnd, IsSearch, IsFoundSet, IsRaised, GetsMore, IsFilled}
+use Rattle.sfm_cells.specs.Splits.{sum_at, amount_at, slots_of, CanBeMet, IsShort}
+use Rattle.sfm_cells.specs.Cells.{joined, owners, cut, label_at, AreCells, IsPart, IsFilled}
+use Rattle.sfm_cells.specs.Left.{AreLeft}
+use Rattle.sfm_cells.proofs.Amounts.{tally, tally-at, sum_over-le}
+use Rattle.sfm_cells.proofs.Rows.{AreBelow, cells_of, split_of_part}
+use Rattle.sfm_cells.proofs.Hall.{hall_easy, short_of_closed}
+use Rattle.sfm_cells.proofs.Outcomes.{nothing_part}
+use Rattle.sfm_split.specs.Search.{node_at, missing, IsFound, IsNode, AreNodes, AreBranches, IsRoot, AreRootsOf, IsMarkOf, IsEnd, IsSearch, IsFoundSet, IsRaised, GetsMore}
 use Rattle.sfm_split.specs.declared.nodes.Link.{Link}
 use Rattle.sfm_split.specs.declared.nodes.Node.{Node}
-use Rattle.sfm_split.proofs.Amounts.{tally, tally-at, sum_over-le}
-use Rattle.sfm_split.proofs.Rows.{AreBelow, cells_of, split_of_part}
-use Rattle.sfm_split.proofs.Hall.{hall_easy, short_of_closed}
 use Rattle.sfm_split.proofs.Searches.{mark_at, linked_node, IsMarkingTo, mark_put, mark_skip, IsGrowingTo, grow_none, grow_put, grow_skip, IsSearching, marks_below, marks_kept, search_begun, search_turned, some_apart, none_marked}
 use Rattle.sfm_split.proofs.Ways.{branches_of, carries_of}
 use Rattle.sfm_split.proofs.Augments.{IsMoving, moving_begun, moving_step, moving_lower, moving_done}
 use Rattle.sfm_split.proofs.Fills.{total_bound, to_nat, to_nat_falls, raised_part, raised_more, raised_total, stuck_filled}
-use Rattle.sfm_split.proofs.Outcomes.{nothing_part}
 
 -- an option has a value, or it has none
 pub either : {A P : Type 0} (o : Option A) → ((x : A) → o ≡ Some x → P) → (o ≡ None → P) → P

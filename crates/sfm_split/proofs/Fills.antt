@@ -9,11 +9,12 @@ use Rattle.sfm_spec.specs.Sets.{Has, whole_set, sum_over}
 use Rattle.sfm_spec.specs.Bounds.{total_of}
 use Rattle.sfm_spec.proofs.Sets.{Has-whole}
 use Rattle.sfm_spec.proofs.Sizes.{weight-whole}
-use Rattle.sfm_split.specs.Splits.{sum_at, amount_at, IsCapacity}
-use Rattle.sfm_split.specs.Cells.{label_at, sum_in, AreCells, IsPart}
-use Rattle.sfm_split.specs.Search.{AreLeft, node_at, HasRoots, IsStuck, IsFoundSet, IsRaised, GetsMore, IsFilled}
+use Rattle.sfm_cells.specs.Splits.{sum_at, amount_at, IsCapacity}
+use Rattle.sfm_cells.specs.Cells.{label_at, sum_in, AreCells, IsPart, IsFilled}
+use Rattle.sfm_cells.specs.Left.{AreLeft}
+use Rattle.sfm_cells.proofs.Amounts.{tally, length-tally, tally-at, sum_over-tally, sum_over-le, sum_over-lt, only-same, only-other}
+use Rattle.sfm_split.specs.Search.{node_at, HasRoots, IsStuck, IsFoundSet, IsRaised, GetsMore}
 use Rattle.sfm_split.specs.declared.nodes.Node.{Node}
-use Rattle.sfm_split.proofs.Amounts.{tally, length-tally, tally-at, sum_over-tally, sum_over-le, sum_over-lt, only-same, only-other}
 use Rattle.sfm_split.proofs.Searches.{some_apart}
 
 sum_in-whole : (n : ℕ) (js : List ℕ) (y : List ℤ) → length y ≡ length js → ((e : ℕ) → e < length js → label_at js e < n) → sum_in (whole_set n) js y ≡ total_of y

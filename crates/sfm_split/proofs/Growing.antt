@@ -1,23 +1,23 @@
 -- One demand raised as far as it goes, up to a limit, while all others are met.
 use Rattle.std.proofs.Common.{◌≡◌, ℕ, ◌<◌, Bool, false, List, [], ◌∷◌, length, get_or, set, ℤ, pos, ◌+ℤ◌, ◌-ℤ◌, ◌≤ℤ◌, Option, None, sym, ap, arith, ⊎_elim, length-set, get_or-set_other, get_or-set_same, ◌∙◌}
-use Rattle.std.specs.List.{All}
 use Rattle.std.proofs.lemmas.Int.{ints, by_lt_z}
 use Rattle.std.proofs.lemmas.Bool.{cases_eq, cases_Bool, false≢true}
 use Rattle.std.proofs.lemmas.List.{set-set, set-get_or}
-use Rattle.sfm_split.specs.Splits.{sum_at, amount_at, IsAmount, IsCapacity, Demands, AreDemands}
-use Rattle.sfm_split.specs.Cells.{joined, owners, cut, AreCells, IsPart, IsMet}
-use Rattle.sfm_split.specs.Search.{AreLeft, ListsLacking, IsSearch, GetsMore, IsFilled}
-use Rattle.sfm_split.specs.Lenders.{with_more, IsMostUpto}
+use Rattle.sfm_cells.specs.Splits.{sum_at, amount_at, IsAmount, Demands, AreDemands}
+use Rattle.sfm_cells.specs.Cells.{joined, owners, cut, AreCells, IsPart, IsMet, IsFilled}
+use Rattle.sfm_cells.specs.Left.{AreLeft, ListsLacking}
+use Rattle.sfm_cells.specs.Lenders.{with_more, IsMostUpto}
+use Rattle.sfm_cells.proofs.Rows.{split_of_part}
+use Rattle.sfm_cells.proofs.Hall.{most_of_closed}
+use Rattle.sfm_cells.proofs.Leaving.{listed_one}
+use Rattle.sfm_cells.proofs.Outcomes.{cells_for, amounts_low, changed-at, changed-other, asked_part}
+use Rattle.sfm_split.specs.Search.{IsSearch, GetsMore}
 use Rattle.sfm_split.specs.Pours.{IsPouring, AreRaised, AreWithin}
 use Rattle.sfm_split.specs.Grown.{MayGrow, IsGrown}
 use Rattle.sfm_split.specs.declared.nodes.Node.{Node}
-use Rattle.sfm_split.proofs.Rows.{split_of_part}
-use Rattle.sfm_split.proofs.Hall.{most_of_closed}
 use Rattle.sfm_split.proofs.Fills.{stuck_filled}
-use Rattle.sfm_split.proofs.Leaving.{listed_one}
 use Rattle.sfm_split.proofs.Pours.{pouring_begun}
 use Rattle.sfm_split.proofs.Searches.{founds, founds_are}
-use Rattle.sfm_split.proofs.Outcomes.{cells_for, amounts_low, changed-at, changed-other, asked_part}
 
 module _ (d : Demands) (sound : AreDemands d) (u : ℕ) (lu : u < length d.demands) (limit : ℤ) (low : pos 0 ≤ℤ limit) (y : List ℤ) (part : IsPart d.demands d.capacities (owners 0 d.lists) (joined d.lists) y) where
   -- the amounts by which the demands are met are still amounts when one of them asks for more
@@ -143,18 +143,6 @@ grown_amount d sound u lu limit g top most =
     let high = most.high in
     let t = top.high in
     record { low = omega (arith, ints, a, low); high = omega (arith, ints, high, t) }
-
--- other demands and capacities over the same lists
-pub other_demands : (d : Demands) → AreDemands d → (demands capacities : List ℤ) → length demands ≡ length d.demands → length capacities ≡ length d.capacities → All IsAmount demands → All IsCapacity capacities
-    → AreDemands (record { demands = demands; lists = d.lists; capacities = capacities })
-other_demands d sound demands capacities sized slots amounts bounded = record {
-  same = sound.same ∙ sym sized;
-  few = rw sized sound.few;
-  few_slots = rw slots sound.few_slots;
-  amounts = amounts;
-  bounded = bounded;
-  exist = rw slots sound.exist;
-}
 
 -- u is raised as far as it goes, and what is left tells by how much
 pub record IsRaisedMost (d : Demands) (whos slots : List ℕ) (u : ℕ) (limit : ℤ) (z lacks rooms : List ℤ) : Type 0 where

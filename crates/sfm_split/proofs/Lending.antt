@@ -2,12 +2,13 @@
 use Rattle.std.proofs.Common.{◌≡◌, ℕ, ◌<◌, Bool, true, false, nat_eq, if◌then◌else◌, List, [], ◌∷◌, zero, suc, length, set, ℤ, pos, neg_ℤ, ◌+ℤ◌, ◌-ℤ◌, ◌≤ℤ◌, ◌<ℤ◌, Option, Some, None, refl, sym, ap, ◌∙◌, arith, ⊎_elim, length-set, get_or-set_other, get_or-set_same}
 use Rattle.std.proofs.lemmas.Int.{ints}
 use Rattle.std.proofs.lemmas.Bool.{cases_eq, cases_lt}
-use Rattle.sfm_split.specs.Splits.{sum_at, amount_at}
-use Rattle.sfm_split.specs.Cells.{label_at, AreCells, IsPart}
-use Rattle.sfm_split.specs.Search.{AreLeft, only, node_at, IsBranch, AreNodes, AreRoots, IsEnd}
+use Rattle.sfm_cells.specs.Splits.{sum_at, amount_at}
+use Rattle.sfm_cells.specs.Cells.{label_at, AreCells, IsPart, only}
+use Rattle.sfm_cells.specs.Left.{AreLeft}
+use Rattle.sfm_cells.proofs.Amounts.{AreAmounts, only-same, only-other}
+use Rattle.sfm_split.specs.Search.{node_at, IsBranch, AreNodes, AreRoots, IsEnd}
 use Rattle.sfm_split.specs.declared.nodes.Link.{Link}
 use Rattle.sfm_split.specs.declared.nodes.Node.{Node}
-use Rattle.sfm_split.proofs.Amounts.{AreAmounts, only-same, only-other}
 use Rattle.sfm_split.proofs.Ways.{branches_of, carries_of}
 use Rattle.sfm_split.proofs.Augments.{put-sum, only-neg, moving_begun}
 use Rattle.sfm_split.proofs.Fills.{below_nodes, raised_part}

@@ -1,17 +1,8 @@
-pub mod Amounts
-pub mod Rows
-pub mod Hall
-pub mod Leaving
-pub mod Placing
-pub mod Grouping
 pub mod Searches
-pub mod Clearing
 pub mod Queues
 pub mod Ways
 pub mod Augments
 pub mod Fills
-pub mod Cutting
-pub mod Outcomes
 pub mod Growing
 pub mod Pours
 pub mod Within
@@ -19,4 +10,3 @@ pub mod Lowering
 pub mod Filling
 pub mod Lending
 pub mod Loans
-pub mod Scaling

@@ -7,14 +7,15 @@ use Rattle.sfm_spec.specs.Sets.{Has, sum_over}
 use Rattle.sfm_spec.specs.Bounds.{total_of}
 use Rattle.sfm_spec.specs.Terms.{exchanged}
 use Rattle.sfm_spec.proofs.Sums.{share, sum_over-set, length-exchanged, sum_over-exchanged}
-use Rattle.sfm_split.specs.Splits.{sum_at, amount_at, row_at, CanBeMet, Demands, AreDemands}
-use Rattle.sfm_split.specs.Cells.{joined, owners, cut, IsPart, IsMet}
-use Rattle.sfm_split.specs.Search.{AreLeft, only, IsFilled, one_more, AreLenders}
-use Rattle.sfm_split.specs.Lenders.{IsLender}
-use Rattle.sfm_split.proofs.Amounts.{only-same, only-other}
-use Rattle.sfm_split.proofs.Rows.{split_of_part}
-use Rattle.sfm_split.proofs.Hall.{closed_bounds}
-use Rattle.sfm_split.proofs.Outcomes.{changed-at, changed-other, asked_part, amounts_low, capacities_low}
+use Rattle.sfm_cells.specs.Splits.{sum_at, amount_at, row_at, CanBeMet, Demands, AreDemands}
+use Rattle.sfm_cells.specs.Cells.{joined, owners, cut, IsPart, IsMet, only, IsFilled}
+use Rattle.sfm_cells.specs.Left.{AreLeft}
+use Rattle.sfm_cells.specs.Lenders.{IsLender}
+use Rattle.sfm_cells.proofs.Amounts.{only-same, only-other}
+use Rattle.sfm_cells.proofs.Rows.{split_of_part}
+use Rattle.sfm_cells.proofs.Hall.{closed_bounds}
+use Rattle.sfm_cells.proofs.Outcomes.{changed-at, changed-other, asked_part, amounts_low, capacities_low}
+use Rattle.sfm_split.specs.Search.{one_more, AreLenders}
 use Rattle.sfm_split.proofs.Filling.{smaller}
 use Rattle.sfm_split.proofs.Lending.{GetsOne}
 

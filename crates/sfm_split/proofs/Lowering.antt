@@ -1,22 +1,23 @@
 -- Amounts lowered cell by cell, and what they then leave.
-use Rattle.std.proofs.Common.{◌≡◌, ℕ, zero, suc, ◌+◌, ◌<◌, ◌≤◌, ◌^◌, List, [], ◌∷◌, length, set, ℤ, pos, ◌+ℤ◌, ◌-ℤ◌, ◌≤ℤ◌, ◌<ℤ◌, refl, sym, ap, ◌∙◌, add-one, arith, FitsSigned, ⊎_elim, length-set, get_or-set_other, get_or-set_same}
+use Rattle.std.proofs.Common.{◌≡◌, ℕ, zero, suc, ◌+◌, ◌<◌, ◌^◌, List, [], ◌∷◌, length, set, ℤ, pos, ◌+ℤ◌, ◌-ℤ◌, ◌≤ℤ◌, ◌<ℤ◌, refl, sym, ap, ◌∙◌, add-one, arith, FitsSigned, ⊎_elim, length-set, get_or-set_other, get_or-set_same}
 use Rattle.std.specs.List.{All}
 use Rattle.std.proofs.lemmas.Int.{ints, by_lt_z}
 use Rattle.std.proofs.lemmas.Bool.{cases_eq}
 use Rattle.std.proofs.lemmas.List.{set-get_or}
 use Rattle.std.proofs.lemmas.List.Elements.{All-get_or, All-set}
 use mir.Syntax.{w128}
-use Rattle.sfm_split.specs.Splits.{sum_at, amount_at, IsAmount, IsCapacity}
-use Rattle.sfm_split.specs.Cells.{label_at, AreCells}
-use Rattle.sfm_split.specs.Search.{AreLeft}
+use Rattle.sfm_cells.specs.Splits.{sum_at, amount_at, IsAmount, IsCapacity}
+use Rattle.sfm_cells.specs.Cells.{label_at, AreCells}
+use Rattle.sfm_cells.specs.Left.{AreLeft, turned, CanPut}
+use Rattle.sfm_cells.proofs.Amounts.{AreAmounts, sum_at-set, sum_at-low, sum_at-holds, only-same, only-other}
+use Rattle.sfm_cells.proofs.Leaving.{left_taken}
+use Rattle.sfm_cells.proofs.Written.{are_turned}
 use Rattle.sfm_split.specs.Pours.{IsPouring, AreWithin}
-use Rattle.sfm_split.specs.Lowers.{IsCharge, AreSmall, AreCharged, AreLowered, IsStanding, StandsBy, IsTotal, turned, CanPut, lacks_put, rooms_put}
+use Rattle.sfm_split.specs.Lowers.{IsCharge, AreSmall, AreCharged, AreLowered, IsStanding, StandsBy, IsTotal, lacks_put, rooms_put}
 use Rattle.sfm_split.specs.Sides.{of_side}
 use Rattle.sfm_split.specs.declared.lower.Side.{Side}
 use Rattle.sfm_split.specs.declared.lower.Side.TheVariants.{Demands, Slots}
-use Rattle.sfm_split.proofs.Amounts.{AreAmounts, sum_at-set, sum_at-low, sum_at-holds, only-same, only-other}
 use Rattle.sfm_split.proofs.Fills.{left_low}
-use Rattle.sfm_split.proofs.Leaving.{left_taken}
 use Rattle.sfm_split.proofs.Pours.{amounts_set, pouring_begun}
 
 -- ---- one place of a list
@@ -361,23 +362,6 @@ side_put Demands lacks rooms k a = refl
 side_put Slots lacks rooms k a = refl
 
 -- ---- all totals of a side change, in order
-
--- what is known of totals of which the first k are new
-pub record AreTurned (k : ℕ) (totals before : List ℤ) : Type 0 where
-  pub places : length (turned k totals before) ≡ length totals
-  pub next : amount_at (turned k totals before) k ≡ amount_at before k
-  pub more : set (turned k totals before) k (amount_at totals k) ≡ turned (suc k) totals before
-  pub all : length totals ≤ k → turned k totals before ≡ totals
-
-pub are_turned : (k : ℕ) (totals before : List ℤ) → length before ≡ length totals → AreTurned k totals before
-are_turned k [] (b ∷ before) same = absurd (omega arith)
-are_turned k (t ∷ totals) [] same = absurd (omega arith)
-are_turned zero [] [] same = record { places = refl; next = refl; more = refl; all = λ past. refl }
-are_turned zero (t ∷ totals) (b ∷ before) same = record { places = same; next = refl; more = refl; all = λ past. absurd (omega (arith, past)) }
-are_turned (suc k) [] [] same = record { places = refl; next = refl; more = refl; all = λ past. refl }
-are_turned (suc k) (t ∷ totals) (b ∷ before) same =
-    let r = are_turned k totals before (omega arith) in
-    record { places = ap suc r.places; next = r.next; more = ap (λ rest. t ∷ rest) r.more; all = λ past. ap (λ rest. t ∷ rest) (r.all (omega (arith, past))) }
 
 -- the next total can change by so much; once what is too much then is lowered, amounts stand with it
 pub record IsTurning (side : Side) (totals before others : List ℤ) (whos slots : List ℕ) (y lacks rooms : List ℤ) (k : ℕ) (more : ℤ) : Type 0 where

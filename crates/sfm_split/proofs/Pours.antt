@@ -4,14 +4,15 @@ use Rattle.std.specs.List.{All}
 use Rattle.std.proofs.lemmas.Int.{ints}
 use Rattle.std.proofs.lemmas.Bool.{cases_eq}
 use Rattle.std.proofs.lemmas.List.Elements.{All-get_or}
-use Rattle.sfm_split.specs.Splits.{sum_at, amount_at, IsCapacity}
-use Rattle.sfm_split.specs.Cells.{label_at, AreCells, IsPart}
-use Rattle.sfm_split.specs.Search.{AreLeft, IsRaised}
+use Rattle.sfm_cells.specs.Splits.{sum_at, amount_at, IsCapacity}
+use Rattle.sfm_cells.specs.Cells.{label_at, AreCells, IsPart}
+use Rattle.sfm_cells.specs.Left.{AreLeft}
+use Rattle.sfm_cells.proofs.Amounts.{AreAmounts, sum_at-set, sum_at-holds, only-same, only-other}
+use Rattle.sfm_cells.proofs.Leaving.{left_taken}
+use Rattle.sfm_split.specs.Search.{IsRaised}
 use Rattle.sfm_split.specs.declared.nodes.Node.{Node}
 use Rattle.sfm_split.specs.Pours.{IsPouring}
-use Rattle.sfm_split.proofs.Amounts.{AreAmounts, sum_at-set, sum_at-holds, only-same, only-other}
 use Rattle.sfm_split.proofs.Fills.{root_in, raised_more, raised_part}
-use Rattle.sfm_split.proofs.Leaving.{left_taken}
 
 -- an amount changed at a cell leaves none negative
 pub amounts_set : (z : List ℤ) (e : ℕ) (b : ℤ) → AreAmounts z → e < length z → pos 0 ≤ℤ b → AreAmounts (set z e b)

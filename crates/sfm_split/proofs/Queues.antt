@@ -5,9 +5,10 @@ use Rattle.std.proofs.lemmas.Bool.{cases_eq, cases_lt}
 use Rattle.std.proofs.lemmas.List.{length_push, get_or_push, get_or_append_left, length-replicate}
 use Rattle.sfm_spec.specs.Sets.{Has}
 use Rattle.sfm_spec.proofs.Lattice.{none_in_empty}
-use Rattle.sfm_split.specs.Splits.{amount_at}
-use Rattle.sfm_split.specs.Cells.{label_at}
-use Rattle.sfm_split.specs.Search.{node_at, missing, IsFound, IsNode, ListsLacking, AreRoots, HasRoots, IsRoot, AreRootsOf, AreQueued, IsProgress, IsFurther, IsHandled, IsEnd, IsSearch}
+use Rattle.sfm_cells.specs.Splits.{amount_at}
+use Rattle.sfm_cells.specs.Cells.{label_at}
+use Rattle.sfm_cells.specs.Left.{ListsLacking}
+use Rattle.sfm_split.specs.Search.{node_at, missing, IsFound, IsNode, AreRoots, HasRoots, IsRoot, AreRootsOf, AreQueued, IsProgress, IsFurther, IsHandled, IsEnd, IsSearch}
 use Rattle.sfm_split.specs.declared.nodes.Link.{Link}
 use Rattle.sfm_split.specs.declared.nodes.Node.{Node}
 use Rattle.sfm_split.proofs.Searches.{node_kept, missing-set, missing_few, search_begun, none_marked, some_apart}

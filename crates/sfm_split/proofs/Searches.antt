@@ -1,13 +1,13 @@
 -- A search level by level, which no code makes: marks on slots, and nodes that are found from them. By it amounts that cannot be
 -- raised are shown to exist.
-use Rattle.std.proofs.Common.{◌≡◌, ℕ, zero, suc, ◌+◌, ◌<◌, ◌≤◌, Bool, true, false, List, [], ◌∷◌, ◌++◌, is_some, length, get_or, set, take, replicate, ℤ, pos, ◌≤ℤ◌, ◌<ℤ◌, Option, Some, None, refl, sym, ap, ◌∙◌, arith, cond, ⊎_elim, length-set, get_or-set_other, get_or-set_same}
+use Rattle.std.proofs.Common.{◌≡◌, ℕ, zero, suc, ◌+◌, ◌<◌, ◌≤◌, Bool, true, false, List, [], ◌∷◌, is_some, length, get_or, set, replicate, ℤ, pos, ◌≤ℤ◌, ◌<ℤ◌, Option, Some, None, refl, sym, ap, ◌∙◌, arith, cond, ⊎_elim, length-set, get_or-set_other, get_or-set_same}
 use Rattle.std.proofs.lemmas.Int.{ints}
 use Rattle.std.specs.Bool.{MatchBool}
 use Rattle.sfm_spec.specs.Sets.{Has, empty_set}
 use Rattle.std.proofs.lemmas.Bool.{cases_eq, cases_lt, false≢true}
-use Rattle.std.proofs.lemmas.List.{length-replicate, take_at}
-use Rattle.sfm_split.specs.Splits.{amount_at}
-use Rattle.sfm_split.specs.Cells.{label_at}
+use Rattle.std.proofs.lemmas.List.{length-replicate}
+use Rattle.sfm_cells.specs.Splits.{amount_at}
+use Rattle.sfm_cells.specs.Cells.{label_at}
 use Rattle.sfm_split.specs.Search.{node_at, missing, IsFound, IsNode, AreNodes, AreRoots, HasRoots, IsRoot, AreRootsOf, IsMarkOf, IsStuck, IsFoundSet}
 use Rattle.sfm_split.specs.declared.nodes.Link.{Link}
 use Rattle.sfm_split.specs.declared.nodes.Node.{Node}
@@ -376,10 +376,6 @@ pub some_apart : {A : Type 0} {a : A} (o : Option A) → o ≡ None → o ≡ So
 some_apart {a = a} o n s = apart (sym n ∙ s) where
   apart : None ≡ Some a → ⊥
   apart h = cc
-
--- a list written in place of another of its length
-pub written : {A : Type 0} (xs ys : List A) (n : ℕ) → length xs ≡ n → take n (xs ++ ys) ≡ xs
-written xs ys n h = take_at xs ys n h
 
 pub none_marked : (m s : ℕ) → mark_at (replicate m None) s ≡ None
 none_marked zero s = refl

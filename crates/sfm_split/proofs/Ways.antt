@@ -1,8 +1,8 @@
 -- The way of an amount along the links of a search, from a demand to one that lacks as much.
 use Rattle.std.proofs.Common.{◌≡◌, ℕ, zero, suc, ◌<◌, List, ℤ, pos, ◌≤ℤ◌, Option, Some, None, refl, sym, ap, ◌∙◌, arith}
 use Rattle.std.proofs.lemmas.Int.{ints}
-use Rattle.sfm_split.specs.Splits.{amount_at}
-use Rattle.sfm_split.specs.Cells.{label_at}
+use Rattle.sfm_cells.specs.Splits.{amount_at}
+use Rattle.sfm_cells.specs.Cells.{label_at}
 use Rattle.sfm_split.specs.Search.{node_at, AreNodes, AreRoots, AreBranches, Carries, at_root, by_link}
 use Rattle.sfm_split.specs.declared.nodes.Link.{Link}
 use Rattle.sfm_split.specs.declared.nodes.Node.{Node}

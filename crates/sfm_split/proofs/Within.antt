@@ -2,13 +2,14 @@
 use Rattle.std.proofs.Common.{◌≡◌, ℕ, zero, suc, ◌<◌, ◌^◌, List, [], ◌∷◌, length, set, ℤ, pos, ◌+ℤ◌, ◌-ℤ◌, ◌≤ℤ◌, ◌<ℤ◌, Option, sym, ◌∙◌, arith}
 use Rattle.std.proofs.lemmas.Int.{ints}
 use Rattle.sfm_spec.specs.Bounds.{total_of}
-use Rattle.sfm_split.specs.Splits.{sum_at, amount_at}
-use Rattle.sfm_split.specs.Cells.{label_at, AreCells}
-use Rattle.sfm_split.specs.Search.{IsRaised, ListsLacking}
+use Rattle.sfm_cells.specs.Splits.{sum_at, amount_at}
+use Rattle.sfm_cells.specs.Cells.{label_at, AreCells}
+use Rattle.sfm_cells.specs.Left.{ListsLacking}
+use Rattle.sfm_cells.proofs.Leaving.{listed_on}
+use Rattle.sfm_split.specs.Search.{IsRaised}
 use Rattle.sfm_split.specs.Pours.{IsPouring, AreWithin, AreRaised}
 use Rattle.sfm_split.specs.declared.nodes.Node.{Node}
 use Rattle.sfm_split.proofs.Fills.{left_low, left_small, below_nodes}
-use Rattle.sfm_split.proofs.Leaving.{listed_on}
 use Rattle.sfm_split.proofs.Pours.{pouring_begun, poured, moved_pouring}
 
 total_le : (x z : List ℤ) → length z ≡ length x → ((i : ℕ) → i < length x → amount_at z i ≤ℤ amount_at x i) → total_of z ≤ℤ total_of x

@@ -1,6 +1,6 @@
 -- What is told where demands are not split.
 use Rattle.std.specs.Prelude.{List, ℕ, ℤ}
-use Rattle.sfm_split.specs.Splits.{CanBeMet, IsShort}
+use Rattle.sfm_cells.specs.Splits.{CanBeMet, IsShort}
 use Rattle.sfm_split.specs.declared.splitting.AssignEnd.{AssignEnd}
 use Rattle.sfm_split.specs.declared.splitting.AssignEnd.TheVariants.{Shortage, Memory}
 

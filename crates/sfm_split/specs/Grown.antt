@@ -1,9 +1,9 @@
 -- A split in which one demand asks for more: what is known before it is raised, and how far it goes.
 use Rattle.std.specs.Prelude.{ℕ, ◌<◌, List, length, ℤ, pos, ◌+ℤ◌, ◌≤ℤ◌}
-use Rattle.sfm_split.specs.Splits.{amount_at, IsAmount, Demands, AreDemands}
-use Rattle.sfm_split.specs.Cells.{AreMet}
-use Rattle.sfm_split.specs.Search.{AreLeft}
-use Rattle.sfm_split.specs.Lenders.{with_more, IsMostUpto}
+use Rattle.sfm_cells.specs.Splits.{amount_at, IsAmount, Demands, AreDemands}
+use Rattle.sfm_cells.specs.Cells.{AreMet}
+use Rattle.sfm_cells.specs.Left.{AreLeft}
+use Rattle.sfm_cells.specs.Lenders.{with_more, IsMostUpto}
 
 -- amounts on the cells meet the demands, lacks and rooms are what they leave of these and of the slots, and the demand u may ask for as much more as the limit
 pub record MayGrow (d : Demands) (whos slots : List ℕ) (y lacks rooms : List ℤ) (u : ℕ) (limit : ℤ) : Type 0 where

@@ -1,10 +1,6 @@
-pub mod Splits
-pub mod Cells
-pub mod Groups
 pub mod Search
 pub mod Pours
 pub mod Lowers
 pub mod Ends
-pub mod Lenders
 pub mod Grown
 pub mod Sides

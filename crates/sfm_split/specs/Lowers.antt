@@ -1,9 +1,9 @@
 -- Amounts that may be too much for demands and capacities, how they are lowered, and what other totals they are brought within.
-use Rattle.std.specs.Prelude.{◌≡◌, ℕ, ◌<◌, ◌^◌, List, ◌++◌, length, take, drop, slice_set, ℤ, pos, ◌+ℤ◌, ◌≤ℤ◌}
+use Rattle.std.specs.Prelude.{◌≡◌, ℕ, ◌^◌, List, length, slice_set, ℤ, pos, ◌+ℤ◌, ◌≤ℤ◌}
 use Rattle.std.specs.List.{All}
-use Rattle.sfm_split.specs.Splits.{amount_at, IsAmount, IsCapacity}
-use Rattle.sfm_split.specs.Cells.{AreCells, IsPart}
-use Rattle.sfm_split.specs.Search.{AreLeft}
+use Rattle.sfm_cells.specs.Splits.{amount_at, IsAmount, IsCapacity}
+use Rattle.sfm_cells.specs.Cells.{AreCells, IsPart}
+use Rattle.sfm_cells.specs.Left.{AreLeft}
 use Rattle.sfm_split.specs.Sides.{of_side}
 use Rattle.sfm_split.specs.declared.lower.Side.{Side}
 use Rattle.sfm_split.specs.declared.lower.Side.TheVariants.{Demands, Slots}
@@ -54,16 +54,6 @@ StandsBy side totals others = IsStanding (of_side side totals others) (of_side s
 abbrev pub IsTotal : Side → ℤ → Type 0
 IsTotal Demands = IsAmount
 IsTotal Slots = IsCapacity
-
--- totals of which the first k are new
-abbrev pub turned : ℕ → List ℤ → List ℤ → List ℤ
-turned k totals before = take k totals ++ drop k before
-
--- what is left of the total k can change by a
-pub record CanPut (left : List ℤ) (k : ℕ) (a : ℤ) : Type 0 where
-  pub place : k < length left
-  pub low : pos 0 ≤ℤ (amount_at left k +ℤ a +ℤ pos (10 ^ 32))
-  pub high : (amount_at left k +ℤ a) ≤ℤ pos (10 ^ 32)
 
 -- what demands lack once it has changed on a side
 abbrev pub lacks_put : Side → List ℤ → ℕ → ℤ → List ℤ

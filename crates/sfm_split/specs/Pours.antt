@@ -1,9 +1,10 @@
 -- Amounts that are raised within what demands lack and what slots have left.
 use Rattle.std.specs.Prelude.{ℕ, List, Bool, length, ℤ, Option, MatchOption}
 use Rattle.std.specs.List.{All}
-use Rattle.sfm_split.specs.Splits.{IsCapacity}
-use Rattle.sfm_split.specs.Cells.{AreCells, IsPart, IsMet}
-use Rattle.sfm_split.specs.Search.{AreLeft, GetsMore, IsLacking}
+use Rattle.sfm_cells.specs.Splits.{IsCapacity}
+use Rattle.sfm_cells.specs.Cells.{AreCells, IsPart, IsMet, IsLacking}
+use Rattle.sfm_cells.specs.Left.{AreLeft}
+use Rattle.sfm_split.specs.Search.{GetsMore}
 
 -- amounts by which no demand gets less than before, and what they leave of demands and of capacities
 pub record IsPouring (demands capacities : List ℤ) (whos slots : List ℕ) (y z lacks rooms : List ℤ) : Type 0 where

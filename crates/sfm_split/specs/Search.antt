@@ -1,26 +1,12 @@
 -- What a search for room finds. A demand is found where it lacks something, or where it has an amount on a slot that a
 -- demand found before could use instead; so an amount can move from each found demand to one that lacks something.
-use Rattle.std.specs.Prelude.{◌≡◌, ◌≢◌, ◌↔◌, ℕ, suc, ◌+◌, ◌<◌, Bool, false, List, [], ◌∷◌, length, slice_index_or, slice_set, ℤ, pos, ◌+ℤ◌, ◌-ℤ◌, ◌≤ℤ◌, ◌<ℤ◌, Option, Some, None, nat_eq, if◌then◌else◌}
+use Rattle.std.specs.Prelude.{◌≡◌, ◌≢◌, ◌↔◌, ℕ, suc, ◌+◌, ◌<◌, Bool, false, List, [], ◌∷◌, length, slice_index_or, slice_set, ℤ, pos, ◌+ℤ◌, ◌≤ℤ◌, ◌<ℤ◌, Option, Some, None}
 use Rattle.sfm_spec.specs.Sets.{Has}
 use Rattle.sfm_spec.specs.Terms.{exchanged}
-use Rattle.sfm_split.specs.Splits.{sum_at, amount_at, CanBeMet}
-use Rattle.sfm_split.specs.Cells.{label_at, IsClosed}
+use Rattle.sfm_cells.specs.Splits.{sum_at, amount_at, CanBeMet}
+use Rattle.sfm_cells.specs.Cells.{label_at, only}
 use Rattle.sfm_split.specs.declared.nodes.Link.{Link}
 use Rattle.sfm_split.specs.declared.nodes.Node.{Node}
-
--- what is left of each total once all amounts of its number are taken off
-pub record AreLeft (totals : List ℤ) (labels : List ℕ) (y left : List ℤ) : Type 0 where
-  pub places : length left ≡ length totals
-  pub each : (k : ℕ) → k < length totals → amount_at left k ≡ (amount_at totals k -ℤ sum_at k labels y)
-
--- a list of demands below n that has each of these that lacks something; others may stand in it too
-pub record ListsBelow (n : ℕ) (lacks : List ℤ) (list : List ℕ) : Type 0 where
-  pub below : (k : ℕ) → k < length list → label_at list k < n
-  pub all : (i : ℕ) → i < n → pos 0 <ℤ amount_at lacks i → (k : ℕ) × (k < length list) × (label_at list k ≡ i)
-
--- the same of all demands
-abbrev pub ListsLacking : List ℤ → List ℕ → Type 0
-ListsLacking lacks list = ListsBelow (length lacks) lacks list
 
 abbrev pub node_at : List (Option Node) → ℕ → Option Node
 node_at nodes i = slice_index_or nodes i None
@@ -146,10 +132,6 @@ pub record IsSearch (whos slots : List ℕ) (y lacks rooms : List ℤ) (nodes : 
   pub begins : HasRoots lacks nodes
   pub ended : IsSearchEnd whos slots y rooms nodes last
 
--- a at the number j, and nothing at others
-abbrev pub only : ℕ → ℕ → ℤ → ℤ
-only j k a = if nat_eq j k then a else pos 0
-
 -- the demand of a node without a link gets a more, within what it lacks, on the slot of the last cell in the end; all else has as much as before
 pub record IsRaised (whos slots : List ℕ) (nodes : List (Option Node)) (lacks : List ℤ) (last : ℕ) (a : ℤ) (y z : List ℤ) : Type 0 where
   pub root : ℕ
@@ -171,19 +153,6 @@ pub record IsFoundSet (nodes : List (Option Node)) (set : List Bool) : Type 0 wh
 -- no demand gets less than before
 abbrev pub GetsMore : List ℕ → List ℤ → List ℤ → Type 0
 GetsMore whos y z = (i : ℕ) → sum_at i whos y ≤ℤ sum_at i whos z
-
--- a closed set with all demands that lack something
-pub record IsFilled (demands capacities : List ℤ) (whos slots : List ℕ) (y : List ℤ) (set : List Bool) : Type 0 where
-  pub places : length set ≡ length demands
-  pub closed : IsClosed capacities whos slots y set
-  pub lacking : (i : ℕ) → i < length demands → sum_at i whos y <ℤ amount_at demands i → Has set i
-
--- some demand lacks something, and the set is closed and has all that do
-pub record IsLacking (demands capacities : List ℤ) (whos slots : List ℕ) (y : List ℤ) (set : List Bool) : Type 0 where
-  pub filled : IsFilled demands capacities whos slots y set
-  pub one : ℕ
-  pub in_range : one < length demands
-  pub less : sum_at one whos y <ℤ amount_at demands one
 
 -- the demands, with one more at u
 abbrev pub one_more : List ℤ → ℕ → List ℤ

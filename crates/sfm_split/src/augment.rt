@@ -1,30 +1,11 @@
 // An amount put on a slot with room, and moved from demand to demand along the links, until a demand gets it that lacks it. How
 // much can move is seen on the way itself, so links that were found serve as long as amounts are on their own cells.
 ghost use Rattle.std.specs.Prelude.{◌≡◌, ℕ, ◌<◌, ◌^◌, length, pos, ◌+ℤ◌, ◌-ℤ◌, ◌≤ℤ◌, Some, slice_set};
-ghost use Rattle.sfm_split.specs.{Splits.{sum_at, amount_at}, Cells.{label_at, AreCells}, Search.{node_at, IsFound, AreNodes, AreRoots, AreBranches, Carries, IsRaised}};
+ghost use Rattle.sfm_cells.specs.{Splits.{sum_at, amount_at}, Cells.{label_at, AreCells}};
+ghost use Rattle.sfm_split.specs.Search.{node_at, IsFound, AreNodes, AreRoots, AreBranches, Carries, IsRaised};
 
-use crate::cells::Cells;
 use crate::nodes::{Node, link_of};
-
-/// Adds to an amount of a list.
-pub(crate) fn put(to: &mut [i128], k: usize, a: i128)
-    requires place { k < length to.old }
-    requires low { pos 0 ≤ℤ (amount_at to.old k +ℤ a +ℤ pos (10 ^ 32)) }
-    requires high { (amount_at to.old k +ℤ a) ≤ℤ pos (10 ^ 32) }
-    ensures { to.new ≡ slice_set to.old k (amount_at to.old k +ℤ a) }
-{
-    to[k] += a;
-}
-
-/// Takes an amount from one that is no less.
-pub(crate) fn take(from: &mut [i128], k: usize, a: i128)
-    requires place { k < length from.old }
-    requires low { pos 0 ≤ℤ a }
-    requires enough { a ≤ℤ amount_at from.old k }
-    ensures { from.new ≡ slice_set from.old k (amount_at from.old k -ℤ a) }
-{
-    from[k] -= a;
-}
+use sfm_cells::{Cells, put, take};
 
 /// How much of an amount can move from a demand that was found, along the links, to one that lacks something.
 pub(crate) fn flow_along(

@@ -1,15 +1,14 @@
 // Amounts for other demands, found beside a split that stands, in memory of their own: either those of the split itself, of which
 // nothing is lacking, or amounts by which other demands over the same lists are met.
 ghost use Rattle.std.specs.{Prelude.{◌≡◌, length, OnOk, MatchResult}, List.{All}};
-ghost use Rattle.sfm_split.specs.{Splits.{IsAmount, IsCapacity, AreDemands}, Cells.{AreMet}, Search.{AreLeft, ListsLacking}, Lowers.{IsStanding}, Ends.{IsAssignEnd}};
+ghost use Rattle.sfm_cells.specs.{Splits.{IsAmount, IsCapacity, AreDemands}, Cells.{AreMet}, Left.{AreLeft, ListsLacking}};
+ghost use Rattle.sfm_split.specs.{Lowers.{IsStanding}, Ends.{IsAssignEnd}};
 
-use crate::cells::Cells;
-use crate::demand::Demand;
-use crate::left::Lefts;
 use crate::lower::{Side, Turn, turn_side};
-use crate::splitting::{AssignEnd, Shares, raise_all};
+use crate::splitting::{AssignEnd, raise_all};
 use crate::work::{Work, copy_list, write_zeros};
 use sfm_base::Memory;
+use sfm_cells::{Cells, Demand, Lefts, Shares};
 use std::alloc::Global;
 
 /// What the demands of a split are to be, and what its slots are to hold at most.

@@ -4,15 +4,15 @@
 // the searches.
 ghost use Rattle.std.specs.Prelude.{◌≡◌, ◌<◌, length, ◌<ℤ◌, IfOk, None};
 ghost use Rattle.sfm_spec.specs.Bounds.{total_of};
-ghost use Rattle.sfm_split.specs.{Search.{ListsLacking, AreQueued, AreBranches, IsOpen, IsSearch}, Pours.{AreWithin, AreRaised}};
+ghost use Rattle.sfm_cells.specs.Left.{ListsLacking};
+ghost use Rattle.sfm_split.specs.{Search.{AreQueued, AreBranches, IsOpen, IsSearch}, Pours.{AreWithin, AreRaised}};
 
-use crate::augment::{augment, flow_along, take};
-use crate::cells::Cells;
-use crate::left::Lefts;
+use crate::augment::{augment, flow_along};
 use crate::nodes::is_found;
 use crate::search::Search;
 use crate::work::Rest;
 use sfm_base::Memory;
+use sfm_cells::{Cells, Lefts, take};
 use std::alloc::Global;
 
 /// Moves as much as can move now, from the slot of a cell to a demand that lacks something, and takes it off what these have

@@ -1,12 +1,13 @@
 // One demand raised as far as it goes, up to a limit, while all others stay met: it alone lacks something, and amounts are raised
 // until it can get no more.
 ghost use Rattle.std.specs.Prelude.{IfOk};
-ghost use Rattle.sfm_split.specs.{Splits.{Demands}, Grown.{MayGrow, IsGrown}};
+ghost use Rattle.sfm_cells.specs.Splits.{Demands};
+ghost use Rattle.sfm_split.specs.Grown.{MayGrow, IsGrown};
 
-use crate::cells::Cells;
 use crate::fill::fill_from;
 use crate::work::Work;
 use sfm_base::Memory;
+use sfm_cells::Cells;
 use std::alloc::Global;
 
 /// Raises the demand u by as much as can be met with all others, up to a limit, and tells by how much. The demands are met by the

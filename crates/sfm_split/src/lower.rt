@@ -4,13 +4,11 @@
 // no demand or capacity is negative, so nothing is too much there. What is left only rises, so what was mended stays so. A demand
 // is listed where it comes to lack something, so those that do not change are passed over with one comparison.
 ghost use Rattle.std.specs.{Prelude.{◌≡◌, ℕ, ◌+◌, ◌<◌, ◌^◌, List, length, ℤ, pos, ◌+ℤ◌, ◌-ℤ◌, ◌≤ℤ◌, OnOk}, List.{All}};
-ghost use Rattle.sfm_split.specs.{Splits.{amount_at}, Cells.{label_at}, Groups.{AreGroups}, Search.{ListsLacking}, Lowers.{AreCharged, AreLowered, IsTotal, StandsBy, turned, CanPut, lacks_put, rooms_put}, Sides.{of_side}, declared.lower.Side.{Side}};
+ghost use Rattle.sfm_cells.specs.{Splits.{amount_at}, Cells.{label_at}, Groups.{AreGroups}, Left.{ListsLacking, turned, CanPut}};
+ghost use Rattle.sfm_split.specs.{Lowers.{AreCharged, AreLowered, IsTotal, StandsBy, lacks_put, rooms_put}, Sides.{of_side}, declared.lower.Side.{Side}};
 
-use crate::augment::{put, take};
-use crate::cells::Cells;
-use crate::groups::Groups;
-use crate::left::Lefts;
 use sfm_base::Memory;
+use sfm_cells::{Cells, Groups, Lefts, put, take};
 
 /// Lowers the amount on a cell, by no more than is too much, and gives it back to its demand and its slot.
 fn lower_on(

@@ -3,9 +3,7 @@
 ghost use Rattle.std.specs.Prelude.{◌≡◌, ◌<◌, length};
 ghost use Rattle.sfm_split.specs.Pours.{AreWithin, AreRaised};
 
-use crate::augment::{put, take};
-use crate::cells::Cells;
-use crate::left::Lefts;
+use sfm_cells::{Cells, Lefts, put, take};
 
 /// Puts on a cell as much of an amount as its demand lacks and its slot has room for.
 fn pour_on(cells: &Cells, e: usize, left: &mut Lefts, y: &mut [i128])

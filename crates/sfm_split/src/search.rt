@@ -4,12 +4,12 @@
 // out, the demands that were found share their slots with no other that has something there, and these slots are full.
 ghost use Rattle.std.specs.Prelude.{◌≡◌, ℕ, ◌+◌, ◌<◌, ◌≤◌, true, false, List, [], length, replicate, slice_set, pos, ◌≤ℤ◌, IfOk, OnOk, MatchOption, Option, Some, None};
 ghost use Rattle.sfm_spec.specs.Sets.{Has};
-ghost use Rattle.sfm_split.specs.{Splits.{amount_at}, Cells.{label_at, AreCells}, Search.{node_at, IsFound, ListsLacking, AreRootsOf, AreQueued, IsProgress, IsFurther, IsHandled, IsEnd, IsSearch}};
+ghost use Rattle.sfm_cells.specs.{Splits.{amount_at}, Cells.{label_at, AreCells}, Left.{ListsLacking}};
+ghost use Rattle.sfm_split.specs.Search.{node_at, IsFound, AreRootsOf, AreQueued, IsProgress, IsFurther, IsHandled, IsEnd, IsSearch};
 
-use crate::cells::Cells;
-use crate::left::Lefts;
 use crate::nodes::{Link, Node, is_found};
 use sfm_base::Memory;
+use sfm_cells::{Cells, Lefts};
 use std::alloc::Global;
 
 /// The memory of a search, which the next one uses again: the node of each demand that was found, whether each slot is marked,

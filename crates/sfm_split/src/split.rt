@@ -1,6 +1,6 @@
 // A split: for each demand the amounts on the slots of its list, in their order.
 ghost use Rattle.std.specs.Prelude.{◌≡◌, ◌<◌, ◌==◌, length, IfOk};
-ghost use Rattle.sfm_split.specs.{Splits.{row_at}, Cells.{joined, cut}};
+ghost use Rattle.sfm_cells.specs.{Splits.{row_at}, Cells.{joined, cut}};
 
 use sfm_base::{Lists, Memory, Rows};
 use std::alloc::Global;

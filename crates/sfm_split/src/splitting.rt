@@ -1,19 +1,16 @@
 // A split of all demands, or a set of them that asks for more than its slots have. The amounts on the cells are raised as far as
 // they go; where a demand still lacks something, those that were found ask for too much.
-ghost use Rattle.std.specs.{Prelude.{◌≡◌, ◌*ℤ◌, map, IfOk, MatchResult}, List.{All}};
-ghost use Rattle.sfm_split.specs.{Splits.{AreDemands, IsAmount, IsAssignment}, Cells.{joined, owners, IsPart, AreMet}, Search.{ListsLacking}, Pours.{AreWithin, AreRaised, IsToldOf}, Ends.{IsAssignEnd}};
+ghost use Rattle.std.specs.Prelude.{◌≡◌, IfOk, MatchResult};
+ghost use Rattle.sfm_cells.specs.{Splits.{AreDemands, IsAssignment}, Cells.{joined, owners, IsPart, AreMet}, Left.{ListsLacking}};
+ghost use Rattle.sfm_split.specs.{Pours.{AreWithin, AreRaised, IsToldOf}, Ends.{IsAssignEnd}};
 
-use crate::cells::Cells;
-use crate::demand::Demand;
 use crate::fill::fill_from;
-use crate::left::{Lefts, lefts_of};
-use crate::multiples::list_times;
 use crate::nodes::found_set;
 use crate::pour::pour;
-use crate::shared::SharedCells;
 use crate::split::Split;
 use crate::work::Rest;
 use sfm_base::{Memory, Set};
+use sfm_cells::{Cells, Demand, Lefts, SharedCells, Shares, lefts_of};
 use std::alloc::Global;
 
 /// Why demands are not split.
@@ -32,48 +29,6 @@ impl From<Memory> for AssignEnd {
 
     fn from(_: Memory) -> Self {
         AssignEnd::Memory
-    }
-}
-
-/// The cells of demands, and the amount on each.
-#[derive(Drop)]
-pub struct Shares {
-    pub cells: SharedCells,
-    pub y: Vec<i128>,
-}
-
-impl Shares {
-    /// A copy.
-    ///
-    /// # Errors
-    ///
-    /// `Memory` where there is none.
-    pub fn copy(&self, alloc: Global) -> Result<Shares, Memory>
-        ensures whos { IfOk result (λ r. r.cells.whos.items ≡ self.now.cells.whos.items) }
-        ensures slots { IfOk result (λ r. r.cells.slots.items ≡ self.now.cells.slots.items) }
-        ensures amounts { IfOk result (λ r. r.y.items ≡ self.now.y.items) }
-    {
-        Ok(Shares {
-            cells: self.cells.share()?,
-            y: Vec::from_slice(alloc, &self.y)?,
-        })
-    }
-
-    /// The same cells, with m times the amount on each.
-    ///
-    /// # Errors
-    ///
-    /// `Memory` where there is none.
-    pub fn times(&self, alloc: Global, m: i128) -> Result<Shares, Memory>
-        requires { All IsAmount (map (λ a. m *ℤ a) self.now.y.items) }
-        ensures whos { IfOk result (λ r. r.cells.whos.items ≡ self.now.cells.whos.items) }
-        ensures slots { IfOk result (λ r. r.cells.slots.items ≡ self.now.cells.slots.items) }
-        ensures amounts { IfOk result (λ r. r.y.items ≡ map (λ a. m *ℤ a) self.now.y.items) }
-    {
-        Ok(Shares {
-            cells: self.cells.share()?,
-            y: list_times(alloc, m, &self.y)?,
-        })
     }
 }
 

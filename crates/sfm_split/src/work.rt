@@ -4,9 +4,9 @@
 ghost use Rattle.std.specs.Prelude.{◌≡◌, [], length, pos, replicate, IfOk, OnOk};
 ghost use Rattle.sfm_split.specs.Search.{missing, AreQueued};
 
-use crate::left::Lefts;
 use crate::search::Search;
 use sfm_base::Memory;
+use sfm_cells::Lefts;
 use std::alloc::Global;
 use std::mem;
 

@@ -1,9 +1,9 @@
 use Rattle.std.proofs.Common.{◌≡◌, ◌<◌, pos, ◌≤ℤ◌, length, refl, ap, arith, ◌∙◌}
 use Rattle.std.proofs.lemmas.Int.{ints}
 use Rattle.std.proofs.lemmas.List.{get_or_read}
-use Rattle.sfm_split.specs.Splits.{amount_at}
-use Rattle.sfm_split.specs.Cells.{label_at}
-use Rattle.sfm_split.proofs.Grouping.{pass_begun, pass_here, pass_more, pass_done}
+use Rattle.sfm_cells.specs.Splits.{amount_at}
+use Rattle.sfm_cells.specs.Cells.{label_at}
+use Rattle.sfm_cells.proofs.Grouping.{pass_begun, pass_here, pass_more, pass_done}
 use Rattle.sfm_assign.specs.Spread.{AreTakenIn}
 use Rattle.sfm_assign.proofs.Spreads.{room_here}
 use Rattle.sfm_assign.proofs.Gathering.{IsDone, gathered_none, gathered_more, gathered_all, held_room, done_still}

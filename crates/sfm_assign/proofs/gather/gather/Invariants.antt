@@ -1,7 +1,7 @@
 -- the slots of the first cells of u are done with, and all that was gathered is led to
 use Rattle.std.proofs.Common.{◌≡◌, length}
 use Rattle.sfm_assign.specs.Spread.{AreTold}
-use Rattle.sfm_split.proofs.Grouping.{IsPassed}
+use Rattle.sfm_cells.proofs.Grouping.{IsPassed}
 use Rattle.sfm_assign.proofs.Gathering.{IsGathered, IsDone}
 use Rattle.sfm_assign.proofs.gather.gather.Given as goal
 

@@ -2,8 +2,8 @@ use Rattle.std.proofs.Common.{◌<◌, length, pos, arith}
 use Rattle.std.proofs.lemmas.Int.{ints}
 use Rattle.std.proofs.lemmas.List.{get_or_read}
 use Rattle.sfm_assign.proofs.Gathering.{nothing_on}
-use Rattle.sfm_split.specs.Cells.{label_at}
-use Rattle.sfm_split.proofs.Grouping.{pass_begun, pass_here, pass_more, pass_done}
+use Rattle.sfm_cells.specs.Cells.{label_at}
+use Rattle.sfm_cells.proofs.Grouping.{pass_begun, pass_here, pass_more, pass_done}
 use Rattle.sfm_assign.proofs.gather.held_cell.Goals as goal
 
 pub loop-f-init : goal.loop-f-init

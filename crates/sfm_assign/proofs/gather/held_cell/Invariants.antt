@@ -1,6 +1,6 @@
 -- the first cells of the slot are passed, and nothing is on them
 use Rattle.sfm_assign.proofs.Gathering.{nothing_on}
-use Rattle.sfm_split.proofs.Grouping.{IsPassed}
+use Rattle.sfm_cells.proofs.Grouping.{IsPassed}
 use Rattle.sfm_assign.proofs.gather.held_cell.Given as goal
 
 abbrev pub invariant-loop-f : goal.invariant-loop-f

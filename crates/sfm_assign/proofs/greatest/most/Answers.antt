@@ -2,8 +2,8 @@ use Rattle.std.proofs.Common.{◌≡◌, set, length, ℤ, pos, ap, ◌∙◌, a
 use Rattle.std.proofs.lemmas.Int.{ints, to_z-of_z}
 use mir.Syntax.{w128}
 use Rattle.sfm_spec.specs.Bounds.{total_of}
-use Rattle.sfm_split.specs.Splits.{amount_at, Demands}
-use Rattle.sfm_split.proofs.Outcomes.{changed-at, most_from}
+use Rattle.sfm_cells.specs.Splits.{amount_at, Demands}
+use Rattle.sfm_cells.proofs.Outcomes.{changed-at, most_from}
 use Rattle.sfm_assign.proofs.greatest.most.Goals.{In-Ok}
 use Rattle.sfm_assign.proofs.greatest.most.Goals as goal
 

@@ -3,7 +3,7 @@ use Rattle.std.proofs.lemmas.Int.{ints}
 use Rattle.std.proofs.lemmas.List.{drop_more}
 use Rattle.std.proofs.lemmas.List.Elements.{All-get_or}
 use Rattle.sfm_spec.specs.Bounds.{total_of}
-use Rattle.sfm_split.specs.Splits.{IsCapacity}
+use Rattle.sfm_cells.specs.Splits.{IsCapacity}
 use Rattle.sfm_assign.proofs.greatest.sum_of.Goals as goal
 
 pub overflow_add-sum : goal.overflow_add-sum

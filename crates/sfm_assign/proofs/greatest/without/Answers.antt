@@ -1,8 +1,8 @@
 use Rattle.std.proofs.Common.{◌≡◌, get_or, ℤ, pos, ◌+ℤ◌, ◌-ℤ◌, ap, arith, rules, to_z, of_z, FitsSigned}
 use Rattle.std.proofs.lemmas.Int.{ints}
 use mir.Syntax.{w128}
-use Rattle.sfm_split.specs.Splits.{amount_at}
-use Rattle.sfm_split.proofs.Outcomes.{amounts_low}
+use Rattle.sfm_cells.specs.Splits.{amount_at}
+use Rattle.sfm_cells.proofs.Outcomes.{amounts_low}
 use Rattle.sfm_assign.proofs.greatest.without.Goals.{After-demands}
 use Rattle.sfm_assign.proofs.greatest.without.Goals as goal
 

@@ -1,5 +1,5 @@
 use Rattle.std.proofs.Common.{ℕ, pos, ◌<ℤ◌, ◌∙◌, arith, length-set}
-use Rattle.sfm_split.specs.Splits.{amount_at}
+use Rattle.sfm_cells.specs.Splits.{amount_at}
 use Rattle.sfm_split.proofs.Loans.{told_more}
 use Rattle.sfm_assign.proofs.kept.write_asking.Goals as goal
 

@@ -1,6 +1,6 @@
 use Rattle.std.proofs.Common.{◌≡◌, ℕ, ◌<◌, length, drop, replicate, ap, sym, ◌∙◌, ⊎_elim, arith, rules}
 use Rattle.std.proofs.lemmas.Bool.{both_ways, cases_lt, false≢true}
-use Rattle.sfm_split.proofs.Searches.{written}
+use Rattle.sfm_cells.proofs.Written.{written}
 use Rattle.sfm_graphic.proofs.Freed.{freed_none}
 use Rattle.sfm_graphic.proofs.testing.passes_each.Goals as goal
 

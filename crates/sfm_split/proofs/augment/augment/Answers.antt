@@ -2,10 +2,10 @@ use Rattle.std.proofs.Common.{◌≡◌, set, ◌^◌, length, pos, ℤ, Some, �
 use Rattle.std.proofs.lemmas.Int.{ints, to_z-of_z}
 use Rattle.std.proofs.lemmas.List.{get_or_read}
 use mir.Syntax.{w128}
-use Rattle.sfm_split.specs.Splits.{amount_at}
-use Rattle.sfm_split.specs.Cells.{label_at}
+use Rattle.sfm_cells.specs.Splits.{amount_at}
+use Rattle.sfm_cells.specs.Cells.{label_at}
+use Rattle.sfm_cells.proofs.Amounts.{sum_at-holds}
 use Rattle.sfm_split.specs.Search.{node_at}
-use Rattle.sfm_split.proofs.Amounts.{sum_at-holds}
 use Rattle.sfm_split.proofs.Ways.{carries_end}
 use Rattle.sfm_split.proofs.Fills.{below_nodes}
 use Rattle.sfm_split.proofs.Augments.{IsMoving, Passes, moving_begun, moving_passes, moving_step, moving_lower, moving_done, level_of, level_some}

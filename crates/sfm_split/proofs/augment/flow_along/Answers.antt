@@ -2,7 +2,7 @@ use Rattle.std.proofs.Common.{◌≡◌, ◌<◌, length, get_or, ℤ, pos, Some
 use Rattle.std.proofs.lemmas.Int.{ints, clamps, to_z-of_z}
 use Rattle.std.proofs.lemmas.List.{get_or_read}
 use mir.Syntax.{w128}
-use Rattle.sfm_split.specs.Cells.{label_at}
+use Rattle.sfm_cells.specs.Cells.{label_at}
 use Rattle.sfm_split.specs.Search.{node_at, IsBranch}
 use Rattle.sfm_split.proofs.Augments.{level_of, level_some}
 use Rattle.sfm_split.proofs.Ways.{way_begun, way_more, way_done, way_some}

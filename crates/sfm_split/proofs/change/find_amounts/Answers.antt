@@ -1,9 +1,8 @@
 use Rattle.std.proofs.Common.{◌≡◌, ◌++◌, ℕ, List, ℤ, length, take, drop, ap, sym, ◌∙◌}
-use Rattle.sfm_split.specs.Cells.{joined, owners}
-use Rattle.sfm_split.specs.Search.{IsLacking}
+use Rattle.sfm_cells.specs.Cells.{joined, owners, IsLacking}
+use Rattle.sfm_cells.proofs.Written.{written}
+use Rattle.sfm_cells.proofs.Outcomes.{cells_for, lacking_end}
 use Rattle.sfm_split.specs.Pours.{IsPouring}
-use Rattle.sfm_split.proofs.Searches.{written}
-use Rattle.sfm_split.proofs.Outcomes.{cells_for, lacking_end}
 use Rattle.sfm_split.proofs.Lowering.{standing_within, standing_pouring}
 use Rattle.sfm_split.proofs.change.find_amounts.Goals.{In_ok-turn, In_ok-told}
 use Rattle.sfm_split.proofs.change.find_amounts.Goals as goal

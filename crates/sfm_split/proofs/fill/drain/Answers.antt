@@ -1,6 +1,6 @@
 use Rattle.std.proofs.Common.{refl, sym, ◌∙◌, arith}
-use Rattle.sfm_split.specs.Cells.{label_at}
-use Rattle.sfm_split.proofs.Grouping.{pass_here}
+use Rattle.sfm_cells.specs.Cells.{label_at}
+use Rattle.sfm_cells.proofs.Grouping.{pass_here}
 use Rattle.sfm_split.proofs.Within.{raised_nowhere, raised_on, raised_lacks, still_within, within_cells}
 use Rattle.sfm_split.proofs.fill.drain.Goals as goal
 

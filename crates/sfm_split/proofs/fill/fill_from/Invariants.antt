@@ -1,7 +1,8 @@
 -- the amounts are raised, and each turn takes some off what the demands lack
 use Rattle.std.proofs.Common.{◌≡◌, length}
 use Rattle.sfm_spec.specs.Bounds.{total_of}
-use Rattle.sfm_split.specs.Search.{ListsLacking, AreQueued}
+use Rattle.sfm_cells.specs.Left.{ListsLacking}
+use Rattle.sfm_split.specs.Search.{AreQueued}
 use Rattle.sfm_split.specs.Pours.{AreWithin, AreRaised}
 use Rattle.sfm_split.proofs.Fills.{to_nat}
 use Rattle.sfm_split.proofs.fill.fill_from.Given as goal

@@ -2,9 +2,9 @@ use Rattle.std.proofs.Common.{◌≡◌, length, ℤ, pos, ◌≤ℤ◌, drop, a
 use Rattle.std.proofs.lemmas.Int.{ints, to_z-of_z}
 use Rattle.std.proofs.lemmas.List.{get_or_read}
 use mir.Syntax.{w128}
-use Rattle.sfm_split.specs.Splits.{amount_at}
-use Rattle.sfm_split.specs.Cells.{label_at}
-use Rattle.sfm_split.proofs.Searches.{written}
+use Rattle.sfm_cells.specs.Splits.{amount_at}
+use Rattle.sfm_cells.specs.Cells.{label_at}
+use Rattle.sfm_cells.proofs.Written.{written}
 use Rattle.sfm_split.proofs.Within.{within_cells, within_load, within_small, moved}
 use Rattle.sfm_split.proofs.fill.raise.Goals.{After-index-s, After-index}
 use Rattle.sfm_split.proofs.fill.raise.Goals as goal

@@ -2,10 +2,10 @@ use Rattle.std.proofs.Common.{◌≡◌, length, drop, ℤ, pos, ◌-ℤ◌, sym
 use Rattle.std.proofs.lemmas.Int.{ints, to_z-of_z}
 use Rattle.std.proofs.lemmas.List.{get_or_read}
 use mir.Syntax.{w128}
-use Rattle.sfm_split.specs.Splits.{Demands, amount_at}
+use Rattle.sfm_cells.specs.Splits.{Demands, amount_at}
+use Rattle.sfm_cells.proofs.Written.{written}
 use Rattle.sfm_split.specs.Grown.{MayGrow}
 use Rattle.sfm_split.proofs.Growing.{IsRaisedMost, may_within, may_listed, may_grow}
-use Rattle.sfm_split.proofs.Searches.{written}
 use Rattle.sfm_split.proofs.grown.raise_most.Goals.{In_ok-search, After-index}
 use Rattle.sfm_split.proofs.grown.raise_most.Goals as goal
 

@@ -1,9 +1,9 @@
 use Rattle.std.proofs.Common.{◌<◌, ℕ, length, get_or, ℤ, pos, arith, rules, FitsSigned}
 use Rattle.std.proofs.lemmas.Int.{ints, by_lt_z, to_z-of_z}
 use mir.Syntax.{w128}
-use Rattle.sfm_split.specs.Cells.{label_at}
+use Rattle.sfm_cells.specs.Cells.{label_at}
+use Rattle.sfm_cells.proofs.Grouping.{pass_begun, pass_here, pass_more, pass_done}
 use Rattle.sfm_split.specs.Sides.{of_side}
-use Rattle.sfm_split.proofs.Grouping.{pass_begun, pass_here, pass_more, pass_done}
 use Rattle.sfm_split.proofs.Lowering.{IsSpent, lowered_nowhere, lowered_on, still_charged, still_spent, side_cells, side_places, side_small, side_mended}
 use Rattle.sfm_split.proofs.lower.lower_along.Goals.{At-loop-e}
 use Rattle.sfm_split.proofs.lower.lower_along.Goals as goal

@@ -1,9 +1,9 @@
 -- the amounts are lowered, nothing is left on the cells that were passed while too much is taken from the total, and the demands that
 -- lack something are listed
-use Rattle.sfm_split.specs.Search.{ListsLacking}
+use Rattle.sfm_cells.specs.Left.{ListsLacking}
+use Rattle.sfm_cells.proofs.Grouping.{IsPassed}
 use Rattle.sfm_split.specs.Lowers.{AreCharged, AreLowered}
 use Rattle.sfm_split.specs.Sides.{of_side}
-use Rattle.sfm_split.proofs.Grouping.{IsPassed}
 use Rattle.sfm_split.proofs.Lowering.{IsSpent}
 use Rattle.sfm_split.proofs.lower.lower_along.Given as goal
 

@@ -2,7 +2,7 @@ use Rattle.std.proofs.Common.{◌≡◌, ℕ, List, get_or, ℤ, pos, ◌-ℤ◌
 use Rattle.std.proofs.lemmas.Int.{ints, clamps, to_z-of_z}
 use Rattle.std.proofs.lemmas.List.{get_or_read}
 use mir.Syntax.{w128}
-use Rattle.sfm_split.specs.Cells.{label_at}
+use Rattle.sfm_cells.specs.Cells.{label_at}
 use Rattle.sfm_split.specs.declared.lower.Side.TheVariants.{Demands, Slots}
 use Rattle.sfm_split.proofs.Lowering.{lowered_cell, side_give, given_back}
 use Rattle.sfm_split.proofs.lower.lower_on.Goals.{After-min-a}

@@ -1,7 +1,8 @@
 use Rattle.std.proofs.Common.{get_or, pos, to_z, ap, arith, rules, FitsSigned}
 use Rattle.std.proofs.lemmas.Int.{to_z-of_z}
 use mir.Syntax.{w128}
-use Rattle.sfm_split.proofs.Lowering.{are_turned, turned_same}
+use Rattle.sfm_cells.proofs.Written.{are_turned}
+use Rattle.sfm_split.proofs.Lowering.{turned_same}
 use Rattle.sfm_split.proofs.lower.turn_side.Goals.{then-totals-k+in_ok-turn_total, else-totals-k}
 use Rattle.sfm_split.proofs.lower.turn_side.Goals as goal
 

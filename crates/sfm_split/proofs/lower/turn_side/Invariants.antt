@@ -1,7 +1,7 @@
 -- the totals that were passed are new, and the demands that lack something are listed
 use Rattle.std.proofs.Common.{List, ℤ}
-use Rattle.sfm_split.specs.Search.{ListsLacking}
-use Rattle.sfm_split.specs.Lowers.{StandsBy, turned}
+use Rattle.sfm_cells.specs.Left.{ListsLacking, turned}
+use Rattle.sfm_split.specs.Lowers.{StandsBy}
 use Rattle.sfm_split.proofs.lower.turn_side.Given as goal
 
 abbrev pub invariant-loop-k : goal.invariant-loop-k

@@ -1,9 +1,10 @@
 use Rattle.std.proofs.Common.{◌≡◌, List, get_or, ℤ, pos, ◌+ℤ◌, ◌-ℤ◌, rules, FitsSigned, length-set}
 use Rattle.std.proofs.lemmas.Int.{to_z-of_z}
 use mir.Syntax.{w128}
-use Rattle.sfm_split.specs.Splits.{amount_at}
+use Rattle.sfm_cells.specs.Splits.{amount_at}
+use Rattle.sfm_cells.specs.Left.{turned}
 use Rattle.sfm_split.specs.Sides.{of_side}
-use Rattle.sfm_split.specs.Lowers.{StandsBy, turned, lacks_put, rooms_put}
+use Rattle.sfm_split.specs.Lowers.{StandsBy, lacks_put, rooms_put}
 use Rattle.sfm_split.proofs.Lowering.{IsTurning, turning, side_put}
 use Rattle.sfm_split.proofs.lower.turn_total.Goals.{Start, After-put}
 use Rattle.sfm_split.proofs.lower.turn_total.Goals as goal

@@ -1,5 +1,5 @@
 use Rattle.std.proofs.Common.{refl, ◌∙◌}
-use Rattle.sfm_split.proofs.Grouping.{pass_here}
+use Rattle.sfm_cells.proofs.Grouping.{pass_here}
 use Rattle.sfm_split.proofs.Within.{raised_nowhere, raised_on, still_within}
 use Rattle.sfm_split.proofs.pour.pour_at.Goals as goal
 

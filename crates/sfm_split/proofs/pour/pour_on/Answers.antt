@@ -2,9 +2,9 @@ use Rattle.std.proofs.Common.{◌≡◌, ℕ, List, length, drop, ℤ, pos, ◌�
 use Rattle.std.proofs.lemmas.Int.{ints, clamps, to_z-of_z}
 use Rattle.std.proofs.lemmas.List.{get_or_read}
 use mir.Syntax.{w128}
-use Rattle.sfm_split.specs.Splits.{amount_at}
-use Rattle.sfm_split.specs.Cells.{label_at}
-use Rattle.sfm_split.proofs.Searches.{written}
+use Rattle.sfm_cells.specs.Splits.{amount_at}
+use Rattle.sfm_cells.specs.Cells.{label_at}
+use Rattle.sfm_cells.proofs.Written.{written}
 use Rattle.sfm_split.proofs.Pours.{poured_low, poured_small}
 use Rattle.sfm_split.proofs.Within.{raised_poured, within_cells, within_lacks, within_pouring, within_rooms}
 use Rattle.sfm_split.proofs.pour.pour_on.Goals.{After-min-a}

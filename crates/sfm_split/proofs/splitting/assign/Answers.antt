@@ -1,6 +1,6 @@
 use Rattle.std.proofs.Common.{length, ap, ◌∙◌}
-use Rattle.sfm_split.proofs.Rows.{length-owners}
-use Rattle.sfm_split.proofs.Outcomes.{split_from}
+use Rattle.sfm_cells.proofs.Rows.{length-owners}
+use Rattle.sfm_cells.proofs.Outcomes.{split_from}
 use Rattle.sfm_split.proofs.splitting.assign.Goals as goal
 
 pub cut-requires : goal.cut-requires

@@ -1,7 +1,7 @@
 use Rattle.std.proofs.Common.{length, drop, ap, sym, ◌∙◌}
-use Rattle.sfm_split.specs.Cells.{joined, owners}
-use Rattle.sfm_split.proofs.Outcomes.{capacities_low, nothing_part, amounts_low}
-use Rattle.sfm_split.proofs.Searches.{written}
+use Rattle.sfm_cells.specs.Cells.{joined, owners}
+use Rattle.sfm_cells.proofs.Outcomes.{capacities_low, nothing_part, amounts_low}
+use Rattle.sfm_cells.proofs.Written.{written}
 use Rattle.sfm_split.proofs.splitting.met_shares.Goals as goal
 
 pub raise_to-requires-clause-part : goal.raise_to-requires-clause-part

@@ -1,7 +1,7 @@
 use Rattle.std.proofs.Common.{◌<◌, length, sym, ◌∙◌, arith}
 use Rattle.std.proofs.lemmas.Int.{ints}
+use Rattle.sfm_cells.proofs.Outcomes.{some_here, none_here}
 use Rattle.sfm_split.proofs.Fills.{stuck_filled}
-use Rattle.sfm_split.proofs.Outcomes.{some_here, none_here}
 use Rattle.sfm_split.proofs.Within.{raised_on, still_listed, still_within}
 use Rattle.sfm_split.proofs.splitting.raise_all.Goals as goal
 

@@ -1,8 +1,7 @@
 use Rattle.std.proofs.Common.{length}
-use Rattle.sfm_split.specs.Cells.{joined, owners, AreCells}
-use Rattle.sfm_split.specs.Search.{IsLacking}
+use Rattle.sfm_cells.specs.Cells.{joined, owners, AreCells, IsLacking}
+use Rattle.sfm_cells.proofs.Outcomes.{cells_for, lacking_end}
 use Rattle.sfm_split.specs.Pours.{IsPouring}
-use Rattle.sfm_split.proofs.Outcomes.{cells_for, lacking_end}
 use Rattle.sfm_split.proofs.Pours.{pouring_begun}
 use Rattle.sfm_split.proofs.splitting.raise_to.Goals.{In_ok-left, In_ok-set}
 use Rattle.sfm_split.proofs.splitting.raise_to.Goals as goal

@@ -1,5 +1,5 @@
-use Rattle.sfm_split.specs.Cells.{cut}
-use Rattle.sfm_split.proofs.Outcomes.{split_from}
+use Rattle.sfm_cells.specs.Cells.{cut}
+use Rattle.sfm_cells.proofs.Outcomes.{split_from}
 use Rattle.sfm_assign.proofs.Remembered.{over_lists}
 use Rattle.sfm_assign.proofs.kept.Kept.are_met.Goals as goal
 

@@ -1,6 +1,6 @@
 use Rattle.std.proofs.Common.{sym, length, ap, ◌∙◌, arith}
 use Rattle.std.proofs.lemmas.Bool.{both_ways}
-use Rattle.sfm_split.proofs.Outcomes.{cells_for}
+use Rattle.sfm_cells.proofs.Outcomes.{cells_for}
 use Rattle.sfm_assign.proofs.Spreads.{answers_none}
 use Rattle.sfm_assign.proofs.kept.Kept.around.Goals as goal
 

@@ -1,7 +1,7 @@
 use Rattle.std.proofs.Common.{◌≡◌, length, sym, ap, ◌∙◌}
 use Rattle.std.proofs.lemmas.Bool.{both_ways}
-use Rattle.sfm_split.specs.Splits.{Demands}
-use Rattle.sfm_split.proofs.Growing.{other_demands}
+use Rattle.sfm_cells.specs.Splits.{Demands}
+use Rattle.sfm_cells.proofs.Outcomes.{other_demands}
 use Rattle.sfm_assign.proofs.Spreads.{answers_anew}
 use Rattle.sfm_assign.proofs.kept.Kept.bring.Goals as goal
 

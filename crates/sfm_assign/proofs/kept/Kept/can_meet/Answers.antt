@@ -1,9 +1,8 @@
 use Rattle.std.proofs.Common.{refl}
 use Rattle.std.proofs.lemmas.Bool.{false≢true}
-use Rattle.sfm_split.specs.Splits.{Demands, AreDemands}
-use Rattle.sfm_split.specs.Cells.{cut}
-use Rattle.sfm_split.proofs.Growing.{other_demands}
-use Rattle.sfm_split.proofs.Outcomes.{split_from}
+use Rattle.sfm_cells.specs.Splits.{Demands, AreDemands}
+use Rattle.sfm_cells.specs.Cells.{cut}
+use Rattle.sfm_cells.proofs.Outcomes.{other_demands, split_from}
 use Rattle.sfm_assign.proofs.Remembered.{over_lists}
 use Rattle.sfm_assign.proofs.kept.Kept.can_meet.Goals.{After-demands-sound}
 use Rattle.sfm_assign.proofs.kept.Kept.can_meet.Goals as goal

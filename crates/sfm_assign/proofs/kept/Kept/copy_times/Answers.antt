@@ -3,10 +3,10 @@ use Rattle.std.proofs.lemmas.Int.{to_z-of_z}
 use Rattle.std.proofs.lemmas.Bool.{both_ways}
 use Rattle.std.proofs.lemmas.List.{length-map}
 use mir.Syntax.{w128}
-use Rattle.sfm_split.specs.Cells.{joined, owners}
-use Rattle.sfm_split.specs.Splits.{Demands}
-use Rattle.sfm_split.proofs.Scaling.{met_times, left_times, amounts_times, rooms_times}
-use Rattle.sfm_split.proofs.Searches.{written}
+use Rattle.sfm_cells.specs.Cells.{joined, owners}
+use Rattle.sfm_cells.specs.Splits.{Demands}
+use Rattle.sfm_cells.proofs.Scaling.{met_times, left_times, amounts_times, rooms_times}
+use Rattle.sfm_cells.proofs.Written.{written}
 use Rattle.sfm_assign.proofs.Spreads.{answers_anew}
 use Rattle.sfm_assign.proofs.kept.Kept.copy_times.Goals.{Start, After-copy_times, After-copy_times-2, After-copy_times-3}
 use Rattle.sfm_assign.proofs.kept.Kept.copy_times.Goals as goal

@@ -1,5 +1,5 @@
 use Rattle.std.proofs.Common.{◌∙◌, sym, arith}
-use Rattle.sfm_split.proofs.Outcomes.{cells_for}
+use Rattle.sfm_cells.proofs.Outcomes.{cells_for}
 use Rattle.sfm_assign.proofs.kept.Kept.gather.Goals as goal
 
 pub gather-requires-clause-told : goal.gather-requires-clause-told

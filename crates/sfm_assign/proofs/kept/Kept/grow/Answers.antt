@@ -2,7 +2,7 @@ use Rattle.std.proofs.Common.{◌≡◌, ℤ, length, sym, ap, ◌∙◌, rules,
 use Rattle.std.proofs.lemmas.Int.{to_z-of_z}
 use Rattle.std.proofs.lemmas.Bool.{both_ways}
 use mir.Syntax.{w128}
-use Rattle.sfm_split.specs.Splits.{Demands}
+use Rattle.sfm_cells.specs.Splits.{Demands}
 use Rattle.sfm_assign.proofs.Spreads.{answers_anew}
 use Rattle.sfm_assign.proofs.kept.Kept.grow.Goals as goal
 

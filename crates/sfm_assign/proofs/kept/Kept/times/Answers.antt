@@ -1,7 +1,7 @@
 use Rattle.std.proofs.Common.{◌≡◌, map, ◌*ℤ◌, FitsSigned}
 use Rattle.std.proofs.lemmas.Int.{to_z-of_z}
 use mir.Syntax.{w128}
-use Rattle.sfm_split.proofs.Scaling.{met_times, amounts_times}
+use Rattle.sfm_cells.proofs.Scaling.{met_times, amounts_times}
 use Rattle.sfm_assign.proofs.kept.Kept.times.Goals as goal
 use Rattle.sfm_assign.proofs.kept.Kept.times.Goals.{In_ok-shares}
 

@@ -2,8 +2,8 @@ use Rattle.std.proofs.Common.{◌≡◌, ◌<◌, false, true, length, get_or, N
 use Rattle.std.proofs.lemmas.Int.{ints}
 use Rattle.std.proofs.lemmas.List.{get_or_read}
 use mir.Syntax.{w128}
-use Rattle.sfm_split.specs.Splits.{amount_at}
-use Rattle.sfm_split.specs.Cells.{label_at}
+use Rattle.sfm_cells.specs.Splits.{amount_at}
+use Rattle.sfm_cells.specs.Cells.{label_at}
 use Rattle.sfm_assign.specs.Spread.{LeadsTo, IsAnswer}
 use Rattle.sfm_assign.proofs.Spreads.{led_further, spread_entered, entered_wider, wider_none, taken, answer_told}
 use Rattle.sfm_assign.proofs.spread.Spread.find.Goals.{After-index-answers-f, In-Some}

@@ -1,8 +1,8 @@
 use Rattle.std.proofs.Common.{◌≡◌, ◌+◌, ℕ, length, ap, sym, arith, ◌∙◌}
 use Rattle.std.proofs.lemmas.List.{get_or_read}
 use Rattle.sfm_spec.specs.Sets.{Has}
-use Rattle.sfm_split.specs.Cells.{label_at}
-use Rattle.sfm_split.proofs.Grouping.{pass_here, pass_more, pass_done}
+use Rattle.sfm_cells.specs.Cells.{label_at}
+use Rattle.sfm_cells.proofs.Grouping.{pass_here, pass_more, pass_done}
 use Rattle.sfm_assign.proofs.Spreads.{wider_more, spread_handled}
 use Rattle.sfm_assign.proofs.spread.Spread.handle.Goals as goal
 

@@ -1,9 +1,9 @@
 -- the first cells of the demand are passed: their slots are marked
 use Rattle.std.proofs.Common.{◌≡◌, length}
 use Rattle.sfm_spec.specs.Sets.{Has}
-use Rattle.sfm_split.specs.Cells.{label_at}
+use Rattle.sfm_cells.specs.Cells.{label_at}
 use Rattle.sfm_assign.specs.Spread.{IsSpread, IsWider}
-use Rattle.sfm_split.proofs.Grouping.{IsPassed}
+use Rattle.sfm_cells.proofs.Grouping.{IsPassed}
 use Rattle.sfm_assign.proofs.spread.Spread.handle.Given as goal
 
 abbrev pub invariant-loop-e : goal.invariant-loop-e

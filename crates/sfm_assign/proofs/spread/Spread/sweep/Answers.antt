@@ -1,9 +1,9 @@
 use Rattle.std.proofs.Common.{ℕ, length, pos, ◌≤ℤ◌, refl, arith, ◌∙◌}
 use Rattle.std.proofs.lemmas.List.{get_or_read}
 use Rattle.sfm_spec.specs.Sets.{Has}
-use Rattle.sfm_split.specs.Splits.{amount_at}
-use Rattle.sfm_split.specs.Cells.{label_at}
-use Rattle.sfm_split.proofs.Grouping.{pass_begun, pass_here, pass_more, pass_done}
+use Rattle.sfm_cells.specs.Splits.{amount_at}
+use Rattle.sfm_cells.specs.Cells.{label_at}
+use Rattle.sfm_cells.proofs.Grouping.{pass_begun, pass_here, pass_more, pass_done}
 use Rattle.sfm_assign.proofs.Spreads.{wider_none, wider_more, spread_marked}
 use Rattle.sfm_assign.proofs.spread.Spread.sweep.Goals as goal
 

@@ -1,10 +1,10 @@
 -- the first cells of the slot are passed: of their demands, those that have something there were found
 use Rattle.std.proofs.Common.{◌≡◌, length, pos, ◌≤ℤ◌}
 use Rattle.sfm_spec.specs.Sets.{Has}
-use Rattle.sfm_split.specs.Splits.{amount_at}
-use Rattle.sfm_split.specs.Cells.{label_at}
+use Rattle.sfm_cells.specs.Splits.{amount_at}
+use Rattle.sfm_cells.specs.Cells.{label_at}
 use Rattle.sfm_assign.specs.Spread.{IsSpread, IsWider}
-use Rattle.sfm_split.proofs.Grouping.{IsPassed}
+use Rattle.sfm_cells.proofs.Grouping.{IsPassed}
 use Rattle.sfm_assign.proofs.spread.Spread.sweep.Given as goal
 
 abbrev pub invariant-loop-own : goal.invariant-loop-own

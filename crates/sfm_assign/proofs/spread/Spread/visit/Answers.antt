@@ -2,8 +2,8 @@ use Rattle.std.proofs.Common.{◌≡◌, ◌<◌, ℕ, length, get_or, pos, ◌�
 use Rattle.std.proofs.lemmas.Int.{ints}
 use Rattle.std.proofs.lemmas.List.{get_or_read}
 use mir.Syntax.{w128}
-use Rattle.sfm_split.specs.Splits.{amount_at}
-use Rattle.sfm_split.specs.Cells.{label_at}
+use Rattle.sfm_cells.specs.Splits.{amount_at}
+use Rattle.sfm_cells.specs.Cells.{label_at}
 use Rattle.sfm_split.proofs.Queues.{marked_here, marked_kept}
 use Rattle.sfm_assign.proofs.Spreads.{led_to_room, room_here}
 use Rattle.sfm_assign.proofs.spread.Spread.visit.Goals.{After-index-s}

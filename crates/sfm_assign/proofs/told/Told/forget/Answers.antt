@@ -1,8 +1,8 @@
 use Rattle.std.proofs.Common.{◌≡◌, ℕ, ◌<◌, ◌≤◌, None, length, ap, ◌∙◌, arith}
 use Rattle.std.proofs.lemmas.List.{get_or_read}
-use Rattle.sfm_split.specs.Cells.{label_at}
+use Rattle.sfm_cells.specs.Cells.{label_at}
 use Rattle.sfm_assign.specs.Spread.{answer_at}
-use Rattle.sfm_split.proofs.Clearing.{cleared_more, cleared_all}
+use Rattle.sfm_cells.proofs.Clearing.{cleared_more, cleared_all}
 use Rattle.sfm_assign.proofs.Telling.{listed_nothing}
 use Rattle.sfm_assign.proofs.told.Told.forget.Goals.{At-loop-k, After-index-u}
 use Rattle.sfm_assign.proofs.told.Told.forget.Goals as goal

@@ -1,6 +1,6 @@
 -- of the demands of the list so far nothing is told
 use Rattle.std.proofs.Common.{◌≡◌}
-use Rattle.sfm_split.proofs.Clearing.{IsClearedTo}
+use Rattle.sfm_cells.proofs.Clearing.{IsClearedTo}
 use Rattle.sfm_assign.proofs.told.Told.forget.Given as goal
 
 abbrev pub invariant-loop-k : goal.invariant-loop-k

@@ -1,7 +1,7 @@
 use Rattle.std.proofs.Common.{get_or, ℤ, pos, ◌-ℤ◌, ap, arith, rules, FitsSigned}
 use Rattle.std.proofs.lemmas.Int.{ints}
 use mir.Syntax.{w128}
-use Rattle.sfm_split.specs.Splits.{amount_at}
+use Rattle.sfm_cells.specs.Splits.{amount_at}
 use Rattle.sfm_split.proofs.lower.Side.excess.Goals as goal
 
 pub overflow_sub-result : goal.overflow_sub-result

@@ -1,7 +1,7 @@
 use Rattle.std.proofs.Common.{◌≡◌, ◌<◌, ◌≤◌, length, ap, ◌∙◌, arith}
 use Rattle.std.proofs.lemmas.List.{get_or_read}
-use Rattle.sfm_split.specs.Cells.{label_at}
-use Rattle.sfm_split.proofs.Clearing.{cleared_more, cleared_all}
+use Rattle.sfm_cells.specs.Cells.{label_at}
+use Rattle.sfm_cells.proofs.Clearing.{cleared_more, cleared_all}
 use Rattle.sfm_split.proofs.Queues.{member_in}
 use Rattle.sfm_split.proofs.search.Search.clear.Goals.{After-index}
 use Rattle.sfm_split.proofs.search.Search.clear.Goals as goal

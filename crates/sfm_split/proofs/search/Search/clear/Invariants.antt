@@ -1,6 +1,6 @@
 -- the demands of the queue so far are forgotten
 use Rattle.std.proofs.Common.{◌≡◌}
-use Rattle.sfm_split.proofs.Clearing.{IsClearedTo}
+use Rattle.sfm_cells.proofs.Clearing.{IsClearedTo}
 use Rattle.sfm_split.proofs.search.Search.clear.Given as goal
 
 abbrev pub invariant-loop-k : goal.invariant-loop-k

@@ -3,8 +3,8 @@ use Rattle.std.proofs.lemmas.Int.{ints}
 use Rattle.std.proofs.lemmas.List.{get_or_read}
 use Rattle.std.proofs.lemmas.Option.{none-some}
 use mir.Syntax.{w128}
-use Rattle.sfm_split.specs.Splits.{amount_at}
-use Rattle.sfm_split.specs.Cells.{label_at}
+use Rattle.sfm_cells.specs.Splits.{amount_at}
+use Rattle.sfm_cells.specs.Cells.{label_at}
 use Rattle.sfm_split.specs.Search.{IsNode, IsFurther, IsProgress, node_at}
 use Rattle.sfm_split.specs.declared.nodes.Node.{Node}
 use Rattle.sfm_split.proofs.Searches.{linked_node}

@@ -2,8 +2,8 @@ use Rattle.std.proofs.Common.{refl, None, length, pos, ◌≤ℤ◌, ◌<◌, �
 use Rattle.std.proofs.lemmas.Int.{ints}
 use Rattle.std.proofs.lemmas.List.{get_or_read}
 use mir.Syntax.{w128}
-use Rattle.sfm_split.specs.Splits.{amount_at}
-use Rattle.sfm_split.specs.Cells.{label_at}
+use Rattle.sfm_cells.specs.Splits.{amount_at}
+use Rattle.sfm_cells.specs.Cells.{label_at}
 use Rattle.sfm_split.proofs.Queues.{roots_none, roots_skip, roots_again, roots_put, roots_all}
 use Rattle.sfm_split.proofs.search.Search.find_roots.Goals as goal
 use Rattle.sfm_split.proofs.search.Search.find_roots.Goals.{After-index-i, then-index-gt0+then-not-is_found+in_ok-push, else-index-gt0, else-index-gt0-via-then-index-gt0+else-not-is_found, else-index-gt0-via-else-index-gt0}

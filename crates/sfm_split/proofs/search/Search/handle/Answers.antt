@@ -3,9 +3,9 @@ use Rattle.std.proofs.lemmas.Int.{ints}
 use Rattle.std.proofs.lemmas.List.{get_or_read}
 use mir.Syntax.{w128}
 use Rattle.sfm_spec.specs.Sets.{Has}
-use Rattle.sfm_split.specs.Splits.{amount_at}
-use Rattle.sfm_split.specs.Cells.{label_at}
-use Rattle.sfm_split.proofs.Grouping.{pass_begun, pass_here, pass_done, pass_more}
+use Rattle.sfm_cells.specs.Splits.{amount_at}
+use Rattle.sfm_cells.specs.Cells.{label_at}
+use Rattle.sfm_cells.proofs.Grouping.{pass_begun, pass_here, pass_done, pass_more}
 use Rattle.sfm_split.proofs.Queues.{further_none, further_more, marked_here, marked_kept, marked_full}
 use Rattle.sfm_split.proofs.search.Search.handle.Goals as goal
 use Rattle.sfm_split.proofs.search.Search.handle.Goals.{After-index-s, then-not-index+else-rooms-s-gt0+in_ok-sweep, else-not-index}

@@ -1,8 +1,8 @@
 -- the first cells of the demand are passed: their slots are marked
 use Rattle.sfm_spec.specs.Sets.{Has}
-use Rattle.sfm_split.specs.Cells.{label_at}
+use Rattle.sfm_cells.specs.Cells.{label_at}
+use Rattle.sfm_cells.proofs.Grouping.{IsPassed}
 use Rattle.sfm_split.specs.Search.{IsHandled}
-use Rattle.sfm_split.proofs.Grouping.{IsPassed}
 use Rattle.sfm_split.proofs.search.Search.handle.Given as goal
 
 abbrev pub invariant-loop-e : goal.invariant-loop-e

@@ -1,6 +1,6 @@
 use Rattle.std.proofs.Common.{◌≡◌, ◌<◌, ◌≤◌, length, arith}
 use Rattle.std.proofs.lemmas.List.{get_or_read}
-use Rattle.sfm_split.specs.Cells.{label_at}
+use Rattle.sfm_cells.specs.Cells.{label_at}
 use Rattle.sfm_split.proofs.Queues.{searched_begun, searched_more, searched_end, searched_stuck, queue_few}
 use Rattle.sfm_split.proofs.search.Search.run.Goals.{After-index-i}
 use Rattle.sfm_split.proofs.search.Search.run.Goals as goal

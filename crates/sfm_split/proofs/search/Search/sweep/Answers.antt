@@ -1,9 +1,9 @@
 use Rattle.std.proofs.Common.{◌≡◌, ℕ, None, pos, ◌≤ℤ◌, length, refl, arith, ap, ◌∙◌}
 use Rattle.std.proofs.lemmas.List.{get_or_read}
-use Rattle.sfm_split.specs.Splits.{amount_at}
-use Rattle.sfm_split.specs.Cells.{label_at}
+use Rattle.sfm_cells.specs.Splits.{amount_at}
+use Rattle.sfm_cells.specs.Cells.{label_at}
+use Rattle.sfm_cells.proofs.Grouping.{pass_begun, pass_here, pass_more, pass_done}
 use Rattle.sfm_split.specs.Search.{node_at}
-use Rattle.sfm_split.proofs.Grouping.{pass_begun, pass_here, pass_more, pass_done}
 use Rattle.sfm_split.proofs.Queues.{further_none, further_more, out_before, marked_progress}
 use Rattle.sfm_split.proofs.search.Search.sweep.Goals as goal
 

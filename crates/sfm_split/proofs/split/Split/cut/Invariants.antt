@@ -1,4 +1,4 @@
-use Rattle.sfm_split.proofs.Cutting.{IsCutTo}
+use Rattle.sfm_cells.proofs.Cutting.{IsCutTo}
 use Rattle.sfm_split.proofs.split.Split.cut.Given as goal
 
 abbrev pub invariant-loop-i : goal.invariant-loop-i

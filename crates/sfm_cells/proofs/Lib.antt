@@ -1,0 +1,11 @@
+pub mod Written
+pub mod Amounts
+pub mod Rows
+pub mod Hall
+pub mod Leaving
+pub mod Placing
+pub mod Grouping
+pub mod Clearing
+pub mod Cutting
+pub mod Outcomes
+pub mod Scaling

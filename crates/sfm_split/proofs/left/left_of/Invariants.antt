@@ -1,6 +1,0 @@
--- what the amounts that were passed leave
-use Rattle.sfm_split.proofs.Leaving.{LeavesTo}
-use Rattle.sfm_split.proofs.left.left_of.Given as goal
-
-abbrev pub invariant-loop-e : goal.invariant-loop-e
-invariant-loop-e l = LeavesTo l.totals l.labels l.y l.left.items l.e
