@@ -5,3 +5,4 @@ pub mod Due
 pub mod Before
 pub mod Values
 pub mod Zero
+pub mod Offers

@@ -1,16 +1,13 @@
 // The slopes of an answer, against those that are due. A slope is the next one exactly where the set before it is its
 // least minimiser and a larger one its greatest; so the slopes are judged one after the other, and none is sought.
 ghost use Rattle.std.specs.Prelude.{◌≡◌, ◌≢◌, ◌↔◌, ◌<◌, ◌≤◌, ℕ, length, map, IsTrue, IfOk, MatchOption};
-ghost use Rattle.sfm_spec.specs.Families.{meanings};
-ghost use Rattle.sfm_kind.specs.Kinds.{kind_places, kind_value};
-ghost use Rattle.sfm_cert.specs.{Answer.{mark_of}, Form.{IsFormed}, Solved.{answer_of, form_of}};
-ghost use Rattle.sfm_check.specs.{Before.{members_before}, Findings.{AreOfOneGround, AreTold, IsFirstWrongSlope, IsFullChain}};
+ghost use Rattle.sfm_cert.specs.{Answer.{mark_of}, Form.{IsFormed}, Solved.{form_of}};
+ghost use Rattle.sfm_check.specs.{Before.{members_before}, Findings.{AreOfOneGround, AreTold, IsFirstWrongSlope, IsFullChain}, Offers.{elements, meant, of_offer, said}};
 
+use crate::offer::Offer;
 use crate::same::are_same;
 use sfm_base::{Memory, Set};
-use sfm_cert::Solved;
 use sfm_extreme::Proved;
-use sfm_kind::Instance;
 use sfm_law::Break;
 use std::alloc::Global;
 
@@ -34,23 +31,20 @@ fn is_next(found: &Proved, before: &Set, set: &Set) -> bool
 /// The first slope, counted from 0, that is not the next one, or the number of slopes where one is missing.
 pub fn first_wrong_slope(
     alloc: Global,
-    instance: &Instance,
-    _sizes: &[i128],
-    solved: &Solved,
+    offer: &Offer<'_>,
     found: &[Proved],
 ) -> Result<Option<usize>, Memory>
-    requires formed { IsFormed (form_of instance.now) (answer_of solved.now) }
-    requires told { AreTold (meanings kind_places kind_value instance.now.terms)
-        (length instance.now.names) _sizes.now (answer_of solved.now) found.now }
+    requires formed { IsFormed (form_of offer.now.instance.now) (said offer.now) }
+    requires told { of_offer AreTold offer.now found.now }
     ensures { IfOk result (λ r. MatchOption r
-        (IsFullChain (meanings kind_places kind_value instance.now.terms)
-        (length instance.now.names) _sizes.now (map mark_of (answer_of solved.now).breaks))
-        (IsFirstWrongSlope (meanings kind_places kind_value instance.now.terms)
-        (length instance.now.names) _sizes.now (map mark_of (answer_of solved.now).breaks))) }
+        (IsFullChain (meant offer.now) (elements offer.now) offer.now.sizes.now
+        (map mark_of (said offer.now).breaks))
+        (IsFirstWrongSlope (meant offer.now) (elements offer.now) offer.now.sizes.now
+        (map mark_of (said offer.now).breaks))) }
 {
-    let n = instance.names_len();
+    let n = offer.instance.names_len();
     let empty = Set::empty(alloc, n)?;
-    let breaks = solved.breaks.as_slice();
+    let breaks = offer.solved.breaks.as_slice();
     for k in 0..breaks.len() {
         if !is_next(&found[k + 1], before(&empty, breaks, k), &breaks[k].set) {
             return Ok(Some(k));

@@ -1,15 +1,15 @@
 // What an answer says, against what is due: the least value, the extreme minimisers, the blocks and the slopes, line by line.
 // The first line was read, so it is the due one, whatever it is.
 ghost use Rattle.std.specs.Prelude.{◌≡◌, ◌↔◌, ◌<◌, ◌≤◌, ℕ, List, length, map, IsTrue, IfOk, MatchOption};
-ghost use Rattle.sfm_spec.specs.{Bounds.{IsEntry}, Blocks.{block_at}, Families.{meanings}, Laws.{Mark}};
-ghost use Rattle.sfm_kind.specs.{Kinds.{kind_places, kind_value}, Names.{AreElementNames}};
+ghost use Rattle.sfm_spec.specs.{Bounds.{IsEntry}, Blocks.{block_at}, Laws.{Mark}};
+ghost use Rattle.sfm_kind.specs.Names.{AreElementNames};
 ghost use Rattle.sfm_extreme.specs.Blocks.{block_of};
 ghost use Rattle.sfm_cert.specs.{Form.{IsFormed, IsFormedBlock}, Solved.{answer_of, form_of, form_with}, Answer.{answer_lines}, Grammar.{answer_limit}};
-ghost use Rattle.sfm_sizes.specs.Sizes.{AreElementSizes};
-ghost use Rattle.sfm_check.specs.{Truth.{IsTrueHead, section_at}, Verdict.{IsFirstWrong}, Findings.{IsFirstUnlike, IsToldOf, IsTrueMinimum, AreTold, IsWrongLine, SaysTheSame}, Due.{due_answer}};
+ghost use Rattle.sfm_check.specs.{Truth.{IsTrueHead}, Verdict.{IsFirstWrong}, Findings.{IsFirstUnlike, IsToldOf, IsTrueMinimum, AreTold, IsWrongLine, SaysTheSame}, Due.{due_answer}, Offers.{IsOffer, IsShort, meant, of_offer, of_section, said}};
 
 use crate::chain::first_wrong_slope;
 use crate::kept::tell_kept;
+use crate::offer::Offer;
 use crate::same::are_same;
 use sfm_base::Memory;
 use sfm_cert::Solved;
@@ -82,53 +82,42 @@ fn first_wrong_line(
 /// The first line before those of slopes that is not the due one, from what the bases at 0/1 tell.
 pub fn first_wrong_before_slopes(
     alloc: Global,
-    instance: &Instance,
-    _sizes: &[i128],
-    solved: &Solved,
+    offer: &Offer<'_>,
     found: &Proved,
 ) -> Result<Option<usize>, Memory>
-    requires sizes { AreElementSizes (length instance.now.names) _sizes.now }
-    requires formed { IsFormed (form_of instance.now) (answer_of solved.now) }
-    requires few { length (answer_lines (form_of instance.now) (answer_of solved.now))
-        ≤ answer_limit }
-    requires told { IsToldOf (meanings kind_places kind_value instance.now.terms)
-        (length instance.now.names) _sizes.now (section_at (answer_of solved.now) 0) found.now }
+    requires offer { IsOffer offer.now }
+    requires few { IsShort offer.now }
+    requires told { of_section IsToldOf offer.now 0 found.now }
     ensures { IfOk result (λ r. (header : List ℕ) → MatchOption r
-        (IsTrueMinimum (meanings kind_places kind_value instance.now.terms)
-        (length instance.now.names) _sizes.now (answer_of solved.now))
-        (IsFirstWrong (form_with header instance.now)
-        (meanings kind_places kind_value instance.now.terms) _sizes.now (answer_of solved.now))) }
+        (of_offer IsTrueMinimum offer.now)
+        (IsFirstWrong (form_with header offer.now.instance.now)
+        (meant offer.now) offer.now.sizes.now (said offer.now))) }
 {
-    let due = blocks(alloc, instance.terms(), instance.names_len(), &solved.bases)?;
-    Ok(first_wrong_line(instance, solved, found, &due))
+    let instance = offer.instance;
+    let bases = &offer.solved.bases;
+    let due = blocks(alloc, instance.terms(), instance.names_len(), bases)?;
+    Ok(first_wrong_line(instance, offer.solved, found, &due))
 }
 
 /// The first line of an answer that is not the due one, from what its sections tell.
 pub fn first_wrong(
     alloc: Global,
-    instance: &Instance,
-    sizes: &[i128],
-    solved: &Solved,
+    offer: &Offer<'_>,
     found: &[Proved],
 ) -> Result<Option<usize>, Memory>
-    requires sizes { AreElementSizes (length instance.now.names) sizes.now }
-    requires formed { IsFormed (form_of instance.now) (answer_of solved.now) }
-    requires few { length (answer_lines (form_of instance.now) (answer_of solved.now))
-        ≤ answer_limit }
-    requires told { AreTold (meanings kind_places kind_value instance.now.terms)
-        (length instance.now.names) sizes.now (answer_of solved.now) found.now }
-    ensures { IfOk result (λ r. (header : List ℕ) → MatchOption r
-        (IsTrueHead (meanings kind_places kind_value instance.now.terms) (length instance.now.names)
-        sizes.now (answer_of solved.now))
-        (IsFirstWrong (form_with header instance.now)
-        (meanings kind_places kind_value instance.now.terms) sizes.now (answer_of solved.now))) }
+    requires offer { IsOffer offer.now }
+    requires few { IsShort offer.now }
+    requires told { of_offer AreTold offer.now found.now }
+    ensures { IfOk result (λ r. (header : List ℕ) → MatchOption r (of_offer IsTrueHead offer.now)
+        (IsFirstWrong (form_with header offer.now.instance.now)
+        (meant offer.now) offer.now.sizes.now (said offer.now))) }
 {
-    tell_kept(instance);
-    if let Some(line) = first_wrong_before_slopes(alloc, instance, sizes, solved, &found[0])? {
+    tell_kept(offer.instance);
+    if let Some(line) = first_wrong_before_slopes(alloc, offer, &found[0])? {
         return Ok(Some(line));
     }
-    match first_wrong_slope(alloc, instance, sizes, solved, found)? {
-        Some(k) => Ok(Some(5 + solved.blocks.len() + k)),
+    match first_wrong_slope(alloc, offer, found)? {
+        Some(k) => Ok(Some(5 + offer.solved.blocks.len() + k)),
         None => Ok(None),
     }
 }

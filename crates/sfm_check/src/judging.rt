@@ -4,45 +4,39 @@
 ghost use Rattle.std.specs.Prelude.{◌≡◌, ◌≤◌, ℕ, List, codes, length, IfOk};
 ghost use Rattle.sfm_spec.specs.{Families.{meanings}, Laws.{ones}};
 ghost use Rattle.sfm_kind.specs.Kinds.{kind_places, kind_value};
-ghost use Rattle.sfm_cert.specs.{Answer.{answer_lines}, Form.{IsFormed}, Grammar.{answer_limit}, Header.{header_text}, Solved.{answer_of, form_of, form_with}};
+ghost use Rattle.sfm_cert.specs.{Grammar.{answer_limit}, Header.{header_text}, Solved.{form_of, form_with}};
 ghost use Rattle.sfm_sizes.specs.Sizes.{AreElementSizes};
-ghost use Rattle.sfm_check.specs.{Verdict.{IsVerdict}, Findings.{AllRowsAreBases, IsFound}};
+ghost use Rattle.sfm_check.specs.{Verdict.{IsVerdict}, Findings.{AllRowsAreBases, IsFound}, Offers.{IsOffer, IsShort, meant, said}};
 
 use crate::bases::first_no_base;
 use crate::head::first_wrong;
 use crate::kept::tell_kept;
+use crate::offer::Offer;
 use crate::right::is_right;
 use crate::sections::{Sections, prove_sections};
 use crate::verdicts::{Verdict, Wrong};
 use sfm_base::Memory;
-use sfm_cert::{AnswerEnd, Header, Solved};
+use sfm_cert::{AnswerEnd, Header};
 use sfm_kind::Instance;
 use sfm_readback::{ANSWER_LIMIT, read_with};
 use sfm_sizes::ones;
 use std::alloc::Global;
 
 /// What is to be said of what a text says, section by section.
-fn judge_sections(
-    alloc: Global,
-    instance: &Instance,
-    sizes: &[i128],
-    solved: &Solved,
-) -> Result<Verdict, Memory>
-    requires sizes { AreElementSizes (length instance.now.names) sizes.now }
-    requires formed { IsFormed (form_of instance.now) (answer_of solved.now) }
-    requires few { length (answer_lines (form_of instance.now) (answer_of solved.now))
-        ≤ answer_limit }
-    requires bases { AllRowsAreBases (meanings kind_places kind_value instance.now.terms)
-        (answer_of solved.now) }
-    ensures { IfOk result (λ v. (header : List ℕ) → IsFound (form_with header instance.now)
-        (meanings kind_places kind_value instance.now.terms) sizes.now (answer_of solved.now) v) }
+fn judge_sections(alloc: Global, offer: &Offer<'_>) -> Result<Verdict, Memory>
+    requires offer { IsOffer offer.now }
+    requires few { IsShort offer.now }
+    requires bases { AllRowsAreBases (meant offer.now) (said offer.now) }
+    ensures { IfOk result (λ v. (header : List ℕ) → IsFound
+        (form_with header offer.now.instance.now) (meant offer.now) offer.now.sizes.now
+        (said offer.now) v) }
 {
-    match prove_sections(alloc, instance, sizes, solved)? {
+    match prove_sections(alloc, offer)? {
         Sections::Unproved { line } => Ok(Verdict::Invalid {
             line,
             reason: Wrong::Unproved,
         }),
-        Sections::Proved(proved) => match first_wrong(alloc, instance, sizes, solved, &proved)? {
+        Sections::Proved(proved) => match first_wrong(alloc, offer, &proved)? {
             Some(line) => Ok(Verdict::Invalid {
                 line,
                 reason: Wrong::Answer,
@@ -53,29 +47,23 @@ fn judge_sections(
 }
 
 /// What is to be said of what a text says.
-fn judge_solved(
-    alloc: Global,
-    instance: &Instance,
-    sizes: &[i128],
-    solved: &Solved,
-) -> Result<Verdict, Memory>
-    requires sizes { AreElementSizes (length instance.now.names) sizes.now }
-    requires formed { IsFormed (form_of instance.now) (answer_of solved.now) }
-    requires few { length (answer_lines (form_of instance.now) (answer_of solved.now))
-        ≤ answer_limit }
-    ensures { IfOk result (λ v. (header : List ℕ) → IsFound (form_with header instance.now)
-        (meanings kind_places kind_value instance.now.terms) sizes.now (answer_of solved.now) v) }
+fn judge_solved(alloc: Global, offer: &Offer<'_>) -> Result<Verdict, Memory>
+    requires offer { IsOffer offer.now }
+    requires few { IsShort offer.now }
+    ensures { IfOk result (λ v. (header : List ℕ) → IsFound
+        (form_with header offer.now.instance.now) (meant offer.now) offer.now.sizes.now
+        (said offer.now) v) }
 {
-    if let Some(line) = first_no_base(alloc, instance, solved)? {
+    if let Some(line) = first_no_base(alloc, offer.instance, offer.solved)? {
         return Ok(Verdict::Invalid {
             line,
             reason: Wrong::Base,
         });
     }
-    if is_right(alloc, instance, sizes, solved)? {
+    if is_right(alloc, offer)? {
         return Ok(Verdict::Valid);
     }
-    judge_sections(alloc, instance, sizes, solved)
+    judge_sections(alloc, offer)
 }
 
 /// What is to be said of a text that is offered as the answer of an instance, whoever wrote it: that it is right, or
@@ -139,7 +127,14 @@ pub fn judge_with(
         });
     }
     match read_with(alloc, header, instance, text) {
-        Ok(solved) => judge_solved(alloc, instance, sizes, &solved),
+        Ok(solved) => {
+            let offer = Offer {
+                instance,
+                sizes,
+                solved: &solved,
+            };
+            judge_solved(alloc, &offer)
+        }
         Err(AnswerEnd::BadLine { line }) => Ok(Verdict::Invalid {
             line,
             reason: Wrong::Grammar,

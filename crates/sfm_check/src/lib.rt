@@ -7,6 +7,7 @@ mod head;
 mod judging;
 mod kept;
 mod minimum;
+mod offer;
 mod right;
 mod same;
 mod sections;

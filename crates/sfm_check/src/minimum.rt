@@ -7,12 +7,12 @@ ghost use Rattle.std.specs.Prelude.{◌≡◌, length, map, pos, IsTrue, IfOk};
 ghost use Rattle.sfm_spec.specs.{Blocks.{AreBlocks}, Families.{meanings, even_shift, AreBases, IsGreatest, IsLeast, Prove}};
 ghost use Rattle.sfm_kind.specs.Kinds.{kind_places, kind_value};
 ghost use Rattle.sfm_cert.specs.{Answer.{mark_of}, Form.{IsFormed}, Solved.{answer_of, break_of, form_of}};
-ghost use Rattle.sfm_sizes.specs.Sizes.{AreElementSizes};
-ghost use Rattle.sfm_check.specs.{Truth.{IsProvedSection, section_at}, Findings.{AllRowsAreBases, IsFullChain, IsTrueMinimum}, Zero.{AreBetween, AreWorthLeast, IsCut}};
+ghost use Rattle.sfm_check.specs.{Truth.{IsProvedSection}, Findings.{AllRowsAreBases, IsFullChain, IsTrueMinimum}, Zero.{AreBetween, AreWorthLeast, IsCut}, Offers.{IsOffer, elements, meant, of_offer, of_section, said}};
 
 use crate::chain::before;
 use crate::head::first_unlike;
 use crate::kept::tell_kept;
+use crate::offer::Offer;
 use crate::same::are_same;
 use crate::values::deficit_at;
 use crate::worth::worth_of;
@@ -49,26 +49,18 @@ fn are_between(alloc: Global, instance: &Instance, solved: &Solved) -> Result<bo
 }
 
 /// Whether the value and those of the extreme sets are the sum of min(z, 0) at the bases at 0/1.
-fn are_worth_least(
-    alloc: Global,
-    instance: &Instance,
-    sizes: &[i128],
-    solved: &Solved,
-) -> Result<bool, Memory>
-    requires sizes { AreElementSizes (length instance.now.names) sizes.now }
-    requires formed { IsFormed (form_of instance.now) (answer_of solved.now) }
-    ensures { IfOk result (λ r. IsTrue r → AreWorthLeast
-        (meanings kind_places kind_value instance.now.terms) (length instance.now.names)
-        sizes.now (answer_of solved.now)) }
+fn are_worth_least(alloc: Global, offer: &Offer<'_>) -> Result<bool, Memory>
+    requires offer { IsOffer offer.now }
+    ensures { IfOk result (λ r. IsTrue r → of_offer AreWorthLeast offer.now) }
 {
-    let Some(low) = worth_of(alloc, instance, sizes, &solved.least)? else {
+    let Some(low) = worth_of(alloc, offer.instance, offer.sizes, &offer.solved.least)? else {
         return Ok(false);
     };
-    let Some(high) = worth_of(alloc, instance, sizes, &solved.greatest)? else {
+    let Some(high) = worth_of(alloc, offer.instance, offer.sizes, &offer.solved.greatest)? else {
         return Ok(false);
     };
-    let least = deficit_at(alloc, instance, sizes, 0, &solved.bases)?;
-    Ok(solved.value == least && low.sum == least && high.sum == least)
+    let least = deficit_at(alloc, offer.instance, offer.sizes, 0, &offer.solved.bases)?;
+    Ok(offer.solved.value == least && low.sum == least && high.sum == least)
 }
 
 /// Whether the blocks are those of the minimisers.
@@ -98,30 +90,20 @@ fn are_blocks_right(alloc: Global, instance: &Instance, solved: &Solved) -> Resu
 }
 
 /// Whether what is said of the minimum is found true, and proved by the bases at 0/1, where the slopes are right.
-pub fn is_minimum_right(
-    alloc: Global,
-    instance: &Instance,
-    sizes: &[i128],
-    solved: &Solved,
-) -> Result<bool, Memory>
-    requires sizes { AreElementSizes (length instance.now.names) sizes.now }
-    requires formed { IsFormed (form_of instance.now) (answer_of solved.now) }
-    requires bases { AllRowsAreBases (meanings kind_places kind_value instance.now.terms)
-        (answer_of solved.now) }
-    requires chain { IsFullChain (meanings kind_places kind_value instance.now.terms)
-        (length instance.now.names) sizes.now (map mark_of (answer_of solved.now).breaks) }
-    ensures { IfOk result (λ r. IsTrue r → IsTrueMinimum
-        (meanings kind_places kind_value instance.now.terms) (length instance.now.names)
-        sizes.now (answer_of solved.now)
-        × IsProvedSection (meanings kind_places kind_value instance.now.terms)
-        (length instance.now.names) sizes.now (section_at (answer_of solved.now) 0)) }
+pub fn is_minimum_right(alloc: Global, offer: &Offer<'_>) -> Result<bool, Memory>
+    requires offer { IsOffer offer.now }
+    requires bases { AllRowsAreBases (meant offer.now) (said offer.now) }
+    requires chain { IsFullChain (meant offer.now) (elements offer.now) offer.now.sizes.now
+        (map mark_of (said offer.now).breaks) }
+    ensures { IfOk result (λ r. IsTrue r → of_offer IsTrueMinimum offer.now
+        × of_section IsProvedSection offer.now 0) }
 {
-    tell_kept(instance);
-    if !are_between(alloc, instance, solved)? {
+    tell_kept(offer.instance);
+    if !are_between(alloc, offer.instance, offer.solved)? {
         return Ok(false);
     }
-    if !are_worth_least(alloc, instance, sizes, solved)? {
+    if !are_worth_least(alloc, offer)? {
         return Ok(false);
     }
-    are_blocks_right(alloc, instance, solved)
+    are_blocks_right(alloc, offer.instance, offer.solved)
 }

@@ -1,15 +1,12 @@
 // Whether the bases of each section prove the minimum at its slope.
-ghost use Rattle.std.specs.Prelude.{◌≡◌, ◌<◌, ◌≤◌, ℕ, length, map, IfOk, MatchOption};
-ghost use Rattle.sfm_spec.specs.Families.{meanings};
-ghost use Rattle.sfm_kind.specs.Kinds.{kind_places, kind_value};
-ghost use Rattle.sfm_cert.specs.{Answer.{answer_lines}, Form.{IsFormed}, Grammar.{answer_limit}, Solved.{answer_of, form_of}};
-ghost use Rattle.sfm_sizes.specs.Sizes.{AreElementSizes};
-ghost use Rattle.sfm_check.specs.{Truth.{section_at, sections_of, IsProvedSection}, Findings.{AllRowsAreBases, IsSection, IsToldOf, AreSections}};
+ghost use Rattle.std.specs.Prelude.{◌≡◌, ◌<◌, ℕ, length, map, IfOk, MatchOption};
+ghost use Rattle.sfm_cert.specs.Solved.{answer_of};
+ghost use Rattle.sfm_check.specs.{Truth.{section_at, sections_of, IsProvedSection}, Findings.{AllRowsAreBases, IsSection, IsToldOf, AreSections}, Offers.{IsOffer, IsShort, meant, of_offer, of_section, said}};
 
+use crate::offer::Offer;
 use sfm_base::{Memory, Rows};
 use sfm_cert::{Solved, line_of_at};
 use sfm_extreme::{Certified, Proved, certify_at};
-use sfm_kind::Instance;
 use sfm_sizes::shift_by;
 use std::alloc::Global;
 
@@ -52,30 +49,19 @@ pub fn section_of<'a>(solved: &'a Solved, s: usize) -> Section<'a>
 }
 
 /// What the bases of section s tell, or None where they do not prove the minimum at its slope.
-pub fn prove_section(
-    alloc: Global,
-    instance: &Instance,
-    sizes: &[i128],
-    solved: &Solved,
-    s: usize,
-) -> Result<Option<Proved>, Memory>
-    requires sizes { AreElementSizes (length instance.now.names) sizes.now }
-    requires formed { IsFormed (form_of instance.now) (answer_of solved.now) }
-    requires bases { AllRowsAreBases (meanings kind_places kind_value instance.now.terms)
-        (answer_of solved.now) }
-    requires at { s < length (sections_of (answer_of solved.now)) }
-    ensures { IfOk result (λ r. MatchOption r
-        (IsProvedSection (meanings kind_places kind_value instance.now.terms)
-        (length instance.now.names) sizes.now (section_at (answer_of solved.now) s) → ⊥)
-        (IsToldOf (meanings kind_places kind_value instance.now.terms) (length instance.now.names)
-        sizes.now (section_at (answer_of solved.now) s))) }
+pub fn prove_section(alloc: Global, offer: &Offer<'_>, s: usize) -> Result<Option<Proved>, Memory>
+    requires offer { IsOffer offer.now }
+    requires bases { AllRowsAreBases (meant offer.now) (said offer.now) }
+    requires at { s < length (sections_of (said offer.now)) }
+    ensures { IfOk result (λ r. MatchOption r (of_section IsProvedSection offer.now s → ⊥)
+        (of_section IsToldOf offer.now s)) }
 {
-    let section = section_of(solved, s);
-    let shift = shift_by(alloc, sizes, section.num)?;
+    let section = section_of(offer.solved, s);
+    let shift = shift_by(alloc, offer.sizes, section.num)?;
     match certify_at(
         alloc,
-        instance.terms(),
-        instance.names_len(),
+        offer.instance.terms(),
+        offer.instance.names_len(),
         section.den,
         &shift,
         section.bases,
@@ -86,30 +72,21 @@ pub fn prove_section(
 }
 
 /// What the bases of each section tell, or the line of the first section that they do not prove.
-pub fn prove_sections(
-    alloc: Global,
-    instance: &Instance,
-    sizes: &[i128],
-    solved: &Solved,
-) -> Result<Sections, Memory>
-    requires sizes { AreElementSizes (length instance.now.names) sizes.now }
-    requires formed { IsFormed (form_of instance.now) (answer_of solved.now) }
-    requires few { length (answer_lines (form_of instance.now) (answer_of solved.now))
-        ≤ answer_limit }
-    requires bases { AllRowsAreBases (meanings kind_places kind_value instance.now.terms)
-        (answer_of solved.now) }
-    ensures { IfOk result (AreSections (meanings kind_places kind_value instance.now.terms)
-        (length instance.now.names) sizes.now (answer_of solved.now)) }
+pub fn prove_sections(alloc: Global, offer: &Offer<'_>) -> Result<Sections, Memory>
+    requires offer { IsOffer offer.now }
+    requires few { IsShort offer.now }
+    requires bases { AllRowsAreBases (meant offer.now) (said offer.now) }
+    ensures { IfOk result (of_offer AreSections offer.now) }
 {
     let mut proved = Vec::new(alloc);
-    for s in 0..solved.breaks.len() + 1 {
-        match prove_section(alloc, instance, sizes, solved, s)? {
+    for s in 0..offer.solved.breaks.len() + 1 {
+        match prove_section(alloc, offer, s)? {
             Some(found) => proved.push(found)?,
             None => {
                 let line = line_of_at(
-                    solved.blocks.len(),
-                    solved.breaks.len(),
-                    instance.terms().len(),
+                    offer.solved.blocks.len(),
+                    offer.solved.breaks.len(),
+                    offer.instance.terms().len(),
                     s,
                 );
                 return Ok(Sections::Unproved { line });

@@ -5,14 +5,14 @@
 ghost use Rattle.std.specs.Prelude.{◌≡◌, ◌<◌, length, map, slice_index_or, pos, ◌-ℤ◌, ◌*ℤ◌, IsTrue, IfOk, IfSome};
 ghost use Rattle.sfm_spec.specs.{Bounds.{IsEntry}, Slopes.{IsLowerSlope}, Families.{meanings, deficit, rest_at, sized_shift}};
 ghost use Rattle.sfm_kind.specs.Kinds.{kind_places, kind_value};
-ghost use Rattle.sfm_cert.specs.{Form.{AreFormedRows, IsFormed, IsFormedBreak}, Solved.{answer_of, break_of, form_of}};
+ghost use Rattle.sfm_cert.specs.{Form.{AreFormedRows, IsFormedBreak}, Solved.{break_of, form_of}};
 ghost use Rattle.sfm_sizes.specs.Sizes.{AreElementSizes};
-ghost use Rattle.sfm_check.specs.{Findings.{AllRowsAreBases}, Values.{AreRightSlopes, Ascends, Attains, IsSmall, IsWorth}};
+ghost use Rattle.sfm_check.specs.{Findings.{AllRowsAreBases}, Values.{AreRightSlopes, Ascends, Attains, IsSmall, IsWorth}, Offers.{IsOffer, meant, of_offer, said}};
 
 use crate::kept::tell_kept;
+use crate::offer::Offer;
 use crate::worth::{Worth, worth_of};
 use sfm_base::{Memory, Rows, Set, Slope};
-use sfm_cert::Solved;
 use sfm_extreme::deficit_of;
 use sfm_kind::Instance;
 use sfm_law::{Break, rest_of};
@@ -89,35 +89,26 @@ fn ascends(breaks: &[Break], k: usize) -> bool
 }
 
 /// Whether values tell that each slope is the next one, up to the whole ground, and that its bases prove.
-pub fn are_slopes_right(
-    alloc: Global,
-    instance: &Instance,
-    sizes: &[i128],
-    solved: &Solved,
-) -> Result<bool, Memory>
-    requires sizes { AreElementSizes (length instance.now.names) sizes.now }
-    requires formed { IsFormed (form_of instance.now) (answer_of solved.now) }
-    requires bases { AllRowsAreBases (meanings kind_places kind_value instance.now.terms)
-        (answer_of solved.now) }
-    ensures { IfOk result (λ r. IsTrue r → AreRightSlopes
-        (meanings kind_places kind_value instance.now.terms) (length instance.now.names)
-        sizes.now (answer_of solved.now)) }
+pub fn are_slopes_right(alloc: Global, offer: &Offer<'_>) -> Result<bool, Memory>
+    requires offer { IsOffer offer.now }
+    requires bases { AllRowsAreBases (meant offer.now) (said offer.now) }
+    ensures { IfOk result (λ r. IsTrue r → of_offer AreRightSlopes offer.now) }
 {
-    tell_kept(instance);
-    let n = instance.names_len();
+    tell_kept(offer.instance);
+    let n = offer.instance.names_len();
     let empty = Set::empty(alloc, n)?;
-    let Some(mut before) = worth_of(alloc, instance, sizes, &empty)? else {
+    let Some(mut before) = worth_of(alloc, offer.instance, offer.sizes, &empty)? else {
         return Ok(false);
     };
-    for k in 0..solved.breaks.len() {
-        let found = &solved.breaks[k];
-        let Some(here) = worth_of(alloc, instance, sizes, &found.set)? else {
+    for k in 0..offer.solved.breaks.len() {
+        let found = &offer.solved.breaks[k];
+        let Some(here) = worth_of(alloc, offer.instance, offer.sizes, &found.set)? else {
             return Ok(false);
         };
-        if before.size >= here.size || !ascends(&solved.breaks, k) {
+        if before.size >= here.size || !ascends(&offer.solved.breaks, k) {
             return Ok(false);
         }
-        if !attain(alloc, instance, sizes, found, &before, &here)? {
+        if !attain(alloc, offer.instance, offer.sizes, found, &before, &here)? {
             return Ok(false);
         }
         before = here;

@@ -10,11 +10,12 @@ use Rattle.sfm_extreme.specs.declared.extremes.Proved.{Proved}
 use Rattle.sfm_extreme.specs.declared.grouping.Block.{Block}
 use Rattle.sfm_extreme.specs.Blocks.{block_of}
 use Rattle.sfm_cert.specs.Answer.{Answer, Form}
-use Rattle.sfm_cert.specs.Solved.{answer_of, form_with}
+use Rattle.sfm_cert.specs.Solved.{form_with}
 use Rattle.sfm_check.specs.Truth.{IsTrueHead, section_at}
 use Rattle.sfm_check.specs.Due.{due_answer}
 use Rattle.sfm_check.specs.Verdict.{IsFirstWrong}
 use Rattle.sfm_check.specs.Findings.{IsToldOf, IsTrueMinimum, IsWrongLine, SaysTheSame}
+use Rattle.sfm_check.specs.Offers.{elements, meant, said}
 use Rattle.sfm_check.proofs.AllSlopes.{all_slopes, marks_kept}
 use Rattle.sfm_check.proofs.AtZero.{zero_shift}
 use Rattle.sfm_check.proofs.BlockOrder.{blocks_formed}
@@ -54,54 +55,54 @@ blocks-requires-clause-bases c = rw c.terms.ensures.terms c.requires.told.proved
 
 pub blocks-requires-clause-prove : goal.blocks-requires-clause-prove
 blocks-requires-clause-prove c =
-    let ms = meanings kind_places kind_value c.args.instance.now.terms in
-    let n = length c.args.instance.now.names in
-    let rows = c.args.solved.now.bases in
+    let ms = meant c.args.offer.now in
+    let n = elements c.args.offer.now in
+    let rows = c.args.offer.now.solved.now.bases in
     let p : Prove ms n (pos 1) (even_shift n (pos 0)) rows = subst (λ z. Prove ms n (pos 1) z rows)
-    (zero_shift n c.args._sizes.now c.requires.sizes) c.requires.told.proved.proves in
+    (zero_shift n c.args.offer.now.sizes.now c.requires.offer.sizes) c.requires.told.proved.proves in
     rw (c.terms.ensures.terms, c.names_len.ensures.len) p
 
 -- the blocks that the bases tell are those at the shift by sizes
-are_due : (c : After-deref) → AreBlocks (meanings kind_places kind_value c.args.instance.now.terms)
-    (length c.args.instance.now.names) (pos 1) (sized_shift c.args._sizes.now (pos 0))
+are_due : (c : After-deref) → AreBlocks (meant c.args.offer.now)
+    (elements c.args.offer.now) (pos 1) (sized_shift c.args.offer.now.sizes.now (pos 0))
     (map block_of c.in_ok-due.due.items)
 are_due c =
-    let ms = meanings kind_places kind_value c.args.instance.now.terms in
-    let n = length c.args.instance.now.names in
+    let ms = meant c.args.offer.now in
+    let n = elements c.args.offer.now in
     let due = map block_of c.in_ok-due.due.items in
     let are : AreBlocks ms n (pos 1) (even_shift n (pos 0)) due =
     rw (c.terms.ensures.terms, c.names_len.ensures.len) at c.in_ok-due.ensures.exact in
     subst (λ z. AreBlocks ms n (pos 1) z due)
-    (sym (zero_shift n c.args._sizes.now c.requires.sizes)) are
+    (sym (zero_shift n c.args.offer.now.sizes.now c.requires.offer.sizes)) are
 
 pub first_wrong_line-requires-clause-value : goal.first_wrong_line-requires-clause-value
 first_wrong_line-requires-clause-value c =
     let told = c.requires.told in
-    subst IsEntry (sym told.value) (value_small (length c.args.instance.now.names)
-    c.args._sizes.now c.args.instance.now.terms c.args.found.now.least c.terms.ensures.bounded
+    subst IsEntry (sym told.value) (value_small (elements c.args.offer.now)
+    c.args.offer.now.sizes.now c.args.offer.now.instance.now.terms c.args.found.now.least c.terms.ensures.bounded
     told.least.minimiser.allowed)
 
 pub first_wrong_line-requires-clause-blocks : goal.first_wrong_line-requires-clause-blocks
 first_wrong_line-requires-clause-blocks c =
-    let ms = meanings kind_places kind_value c.args.instance.now.terms in
-    let n = length c.args.instance.now.names in
+    let ms = meant c.args.offer.now in
+    let n = elements c.args.offer.now in
     let due = c.in_ok-due.due.items in
     let are = are_due (goal.at.first_wrong_line-requires-clause-blocks c).After-deref in
     let shown = ap length c.deref.ensures.value in
     λ i l. rw c.deref.ensures.value
-    (blocks_formed ms n (pos 1) (sized_shift c.args._sizes.now (pos 0)) (map block_of due) are i
+    (blocks_formed ms n (pos 1) (sized_shift c.args.offer.now.sizes.now (pos 0)) (map block_of due) are i
     (omega (arith, l, shown, length-map due block_of)))
 
 pub returns : goal.returns
 returns c = λ header.
-    let ts = c.args.instance.now.terms in
+    let ts = c.args.offer.now.instance.now.terms in
     let ms = meanings kind_places kind_value ts in
-    let n = length c.args.instance.now.names in
-    let sizes = c.args._sizes.now in
+    let n = elements c.args.offer.now in
+    let sizes = c.args.offer.now.sizes.now in
     let due = c.in_ok-due.due.items in
-    let a = answer_of c.args.solved.now in
-    let (marks, slopes) = all_slopes n ts c.terms.ensures.bounded sizes c.requires.sizes in
-    let form = form_with header c.args.instance.now in
+    let a = said c.args.offer.now in
+    let (marks, slopes) = all_slopes n ts c.terms.ensures.bounded sizes c.requires.offer.sizes in
+    let form = form_with header c.args.offer.now.instance.now in
     let truth = due_answer c.args.found.now due marks in
     let is_true = true_due ms n sizes a c.args.found.now due marks c.requires.told
     (are_due (goal.at.returns c).After-deref) slopes in

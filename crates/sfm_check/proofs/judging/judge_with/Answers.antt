@@ -21,10 +21,12 @@ judge_solved-requires-clause-few c =
     few_by_text (form_with (header_text c.args.header) c.args.instance.now) c.args.text.now
     (answer_of c.in-Ok.solved) c.in-Ok.ensures.read c.if-text-gt-ANSWER_LIMIT.false
 
-pub judge_solved-requires-clause-formed : goal.judge_solved-requires-clause-formed
-judge_solved-requires-clause-formed c =
-    formed_any c.args.instance.now (header_text c.args.header) (codes "answer 1")
-    c.in-Ok.ensures.read.formed
+pub judge_solved-requires-clause-offer : goal.judge_solved-requires-clause-offer
+judge_solved-requires-clause-offer c = record {
+  sizes = c.requires.sizes;
+  formed = formed_any c.args.instance.now (header_text c.args.header) (codes "answer 1")
+      c.in-Ok.ensures.read.formed;
+}
 
 pub returns-in-Ok-clause-verdict : goal.returns-in-Ok-clause-verdict
 returns-in-Ok-clause-verdict c =
