@@ -4,6 +4,7 @@ pub mod Spreads
 pub mod Improving
 pub mod Starting
 pub mod Resting
+pub mod Running
 pub mod Counting
 pub mod Augmenting
 pub mod Marking

@@ -5,8 +5,8 @@
 // than that sum rises, so what entries are at first and how far below 0 that sum is bound all that they come to.
 ghost use Rattle.std.specs.{Prelude.{◌≡◌, ◌+◌, ◌*◌, ◌^◌, ◌≢◌, ◌<◌, ◌≤◌, pos, neg_ℤ, ◌≤ℤ◌, length, OnOk, IfOk, slice_index_or}, List.{All}};
 ghost use Rattle.sfm_spec.specs.{Sets.{magnitudes}, Bounds.{IsAtMost}, Families.{meanings, rest_at, deficit}, Terms.{exchanged}, Walks.{few_walks, last_of}};
-ghost use Rattle.sfm_walk.specs.{Labels.{AreLabels}, Optimum.{IsImproved}, Run.{AreAdvanced, IsLeastWalk, IsRunAt}};
-ghost use Rattle.sfm_exchange.specs.{Graph.{IsClaimed}, Hops.{steps_of}, Levels.{depth_of}, Signs.{AreMoved, AreSigns}};
+ghost use Rattle.sfm_walk.specs.{Labels.{AreLabels}, Optimum.{IsImproved}, Run.{AreAdvanced, IsNext, IsRunning}};
+ghost use Rattle.sfm_exchange.specs.{Graph.{IsClaimed}, Hops.{steps_of}, Signs.{AreMoved, AreSigns}};
 
 use crate::rest::{most_of, move_rest, rest_from};
 use crate::run::{Run, run_at};
@@ -87,15 +87,9 @@ fn advance<T: Term>(
     _shift: &[i128],
     run: &mut Run,
 ) -> Result<(), Memory>
-    requires graph { IsClaimed T.Term terms.now (length _shift.now) q graph.old }
     requires shifts { magnitudes _shift.now ≤ℤ pos (10 ^ 27) }
-    requires run { IsRunAt (meanings T.places T.value_of terms.now) _shift.now graph.old.bases
-        run.old }
-    requires walk { IsLeastWalk (meanings T.places T.value_of terms.now)
-        (length _shift.now) q _shift.now graph.old.bases run.old.z.items
-        (depth_of run.old.levels.items) run.old.path.first run.old.path.hops.items }
-    requires labels { AreLabels (meanings T.places T.value_of terms.now)
-        (length _shift.now) q _shift.now graph.old.bases run.old.levels.items }
+    requires running { IsRunning T.Term terms.now q _shift.now graph.old run.old }
+    requires next { IsNext T.Term terms.now q _shift.now graph.old run.old }
     requires small { All (λ x. All (IsAtMost (5 * 10 ^ 29)) x) graph.old.bases }
     requires gap { neg_ℤ (pos (5 * 10 ^ 29)) ≤ℤ deficit (length _shift.now)
         (rest_at (meanings T.places T.value_of terms.now) graph.old.bases _shift.now) }

@@ -2,11 +2,11 @@
 // one along each step. They stay so where walks are moved along by which they fall, so a walk by which they fall by one at each step
 // is one of fewest steps, whether or not they still tell distances (Ahuja, Magnanti and Orlin, Network Flows, section 7: distance
 // labels). Where no link leads on from a place, its label rises. No search is made as long as that leads to a walk soon.
-ghost use Rattle.std.specs.{Prelude.{◌≡◌, ◌≢◌, ◌<◌, ◌≤◌, ℕ, length, true, Some, None, OnOk, IfOk, MatchOption}, List.{All}};
-ghost use Rattle.sfm_spec.specs.{Bounds.{IsEntry}, Families.{meanings}};
+ghost use Rattle.std.specs.Prelude.{◌≡◌, ◌≢◌, ◌<◌, ◌≤◌, ℕ, length, true, Some, None, OnOk, IfOk, MatchOption};
+ghost use Rattle.sfm_spec.specs.Families.{meanings};
 ghost use Rattle.sfm_reach.specs.Bits.{bit_in, set_at};
-ghost use Rattle.sfm_exchange.specs.{Graph.{IsClaimed}, Levels.{depth_of, IsAtLast}, declared.path.Stuck.{Stuck}};
-ghost use Rattle.sfm_walk.specs.{Labels.{AreLabels, IsRaised}, Run.{IsLeastWalk, IsRunAt}};
+ghost use Rattle.sfm_exchange.specs.{Levels.{IsAtLast}, declared.path.Stuck.{Stuck}};
+ghost use Rattle.sfm_walk.specs.{Labels.{AreLabels, IsRaised}, Run.{IsNext, IsRunning}};
 
 use crate::run::Run;
 use sfm_base::Memory;
@@ -75,21 +75,15 @@ pub fn kept_walk<T: Term>(
     _shift: &[i128],
     run: &mut Run,
 ) -> Result<bool, Memory>
-    requires graph { IsClaimed T.Term terms.now (length _shift.now) q graph.old }
-    requires small { All (λ x. All IsEntry x) graph.old.bases }
-    requires run { IsRunAt (meanings T.places T.value_of terms.now) _shift.now graph.old.bases
-        run.old }
+    requires running { IsRunning T.Term terms.now q _shift.now graph.old run.old }
     requires labels { AreLabels (meanings T.places T.value_of terms.now)
         (length _shift.now) q _shift.now graph.old.bases run.old.levels.items }
-    ensures graph { OnOk result (IsClaimed T.Term terms.now (length _shift.now) q graph.new) }
+    ensures running { OnOk result (IsRunning T.Term terms.now q _shift.now graph.new run.new) }
     ensures bases { OnOk result (graph.new.bases ≡ graph.old.bases) }
-    ensures run { OnOk result (IsRunAt (meanings T.places T.value_of terms.now) _shift.now
-        graph.old.bases run.new) }
     ensures labels { OnOk result (AreLabels (meanings T.places T.value_of terms.now)
-        (length _shift.now) q _shift.now graph.old.bases run.new.levels.items) }
-    ensures walk { IfOk result (λ r. r ≡ true → IsLeastWalk (meanings T.places T.value_of terms.now)
-        (length _shift.now) q _shift.now graph.old.bases run.new.z.items
-        (depth_of run.new.levels.items) run.new.path.first run.new.path.hops.items) }
+        (length _shift.now) q _shift.now graph.new.bases run.new.levels.items) }
+    ensures next { IfOk result (λ r. r ≡ true
+        → IsNext T.Term terms.now q _shift.now graph.new run.new) }
 {
     let tries = KEPT_STEPS / (run.levels.len() + 1);
     for _ in 0..tries {

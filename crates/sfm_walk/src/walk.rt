@@ -2,10 +2,9 @@
 // z > 0 has fewer steps, and each step is the least of those that lead on. The search takes the rows that are claimed as they
 // are: they lack no step, so where all steps of its walk are true ones, it is such a walk, and where it finds none, none joins.
 // Each walk that is refused leaves fewer rows claimed. The levels of the walk before are tried first.
-ghost use Rattle.std.specs.{Prelude.{◌≡◌, ◌<◌, ℕ, List, length, true, false, OnOk, IfOk}, List.{All}};
-ghost use Rattle.sfm_spec.specs.{Bounds.{IsEntry}, Families.{meanings}, Walks.{Step, Joins}};
-ghost use Rattle.sfm_exchange.specs.{Levels.{depth_of}, Graph.{IsClaimed}};
-ghost use Rattle.sfm_walk.specs.{Labels.{AreLabels}, Run.{IsLeastWalk, IsRunAt}};
+ghost use Rattle.std.specs.Prelude.{◌≡◌, ◌<◌, ℕ, List, length, true, false, OnOk, IfOk};
+ghost use Rattle.sfm_spec.specs.{Families.{meanings}, Walks.{Step, Joins}};
+ghost use Rattle.sfm_walk.specs.{Labels.{AreLabels}, Run.{IsNext, IsRunning}};
 
 use crate::labels::kept_walk;
 use crate::run::Run;
@@ -23,24 +22,15 @@ pub fn next_walk<T: Term>(
     _shift: &[i128],
     run: &mut Run,
 ) -> Result<bool, Memory>
-    requires graph { IsClaimed T.Term terms.now (length _shift.now) q graph.old }
-    requires small { All (λ x. All IsEntry x) graph.old.bases }
-    requires run { IsRunAt (meanings T.places T.value_of terms.now) _shift.now graph.old.bases
-        run.old }
+    requires running { IsRunning T.Term terms.now q _shift.now graph.old run.old }
     requires labels { AreLabels (meanings T.places T.value_of terms.now)
         (length _shift.now) q _shift.now graph.old.bases run.old.levels.items }
-    ensures graph { OnOk result (IsClaimed T.Term terms.now (length _shift.now) q graph.new) }
+    ensures running { OnOk result (IsRunning T.Term terms.now q _shift.now graph.new run.new) }
     ensures bases { OnOk result (graph.new.bases ≡ graph.old.bases) }
-    ensures run { OnOk result (IsRunAt (meanings T.places T.value_of terms.now) _shift.now
-        graph.old.bases run.new) }
-    ensures walk { IfOk result (λ r. r ≡ true → IsLeastWalk (meanings T.places T.value_of terms.now)
-        (length _shift.now) q _shift.now graph.old.bases run.new.z.items
-        (depth_of run.new.levels.items) run.new.path.first run.new.path.hops.items) }
-    ensures labels { IfOk result (λ r. r ≡ true → AreLabels
-        (meanings T.places T.value_of terms.now) (length _shift.now) q _shift.now graph.old.bases
-        run.new.levels.items) }
+    ensures next { IfOk result (λ r. r ≡ true
+        → IsNext T.Term terms.now q _shift.now graph.new run.new) }
     ensures ends { IfOk result (λ r. r ≡ false → (first : ℕ) (steps : List Step)
-        → Joins (meanings T.places T.value_of terms.now) q _shift.now graph.old.bases first steps
+        → Joins (meanings T.places T.value_of terms.now) q _shift.now graph.new.bases first steps
         → ⊥) }
 {
     if kept_walk(alloc, graph, terms, q, _shift, run)? {
@@ -58,22 +48,13 @@ pub(crate) fn searched_walk<T: Term>(
     _shift: &[i128],
     run: &mut Run,
 ) -> Result<bool, Memory>
-    requires graph { IsClaimed T.Term terms.now (length _shift.now) q graph.old }
-    requires small { All (λ x. All IsEntry x) graph.old.bases }
-    requires run { IsRunAt (meanings T.places T.value_of terms.now) _shift.now graph.old.bases
-        run.old }
-    ensures graph { OnOk result (IsClaimed T.Term terms.now (length _shift.now) q graph.new) }
+    requires { IsRunning T.Term terms.now q _shift.now graph.old run.old }
+    ensures running { OnOk result (IsRunning T.Term terms.now q _shift.now graph.new run.new) }
     ensures bases { OnOk result (graph.new.bases ≡ graph.old.bases) }
-    ensures run { OnOk result (IsRunAt (meanings T.places T.value_of terms.now) _shift.now
-        graph.old.bases run.new) }
-    ensures walk { IfOk result (λ r. r ≡ true → IsLeastWalk (meanings T.places T.value_of terms.now)
-        (length _shift.now) q _shift.now graph.old.bases run.new.z.items
-        (depth_of run.new.levels.items) run.new.path.first run.new.path.hops.items) }
-    ensures labels { IfOk result (λ r. r ≡ true → AreLabels
-        (meanings T.places T.value_of terms.now) (length _shift.now) q _shift.now graph.old.bases
-        run.new.levels.items) }
+    ensures next { IfOk result (λ r. r ≡ true
+        → IsNext T.Term terms.now q _shift.now graph.new run.new) }
     ensures ends { IfOk result (λ r. r ≡ false → (first : ℕ) (steps : List Step)
-        → Joins (meanings T.places T.value_of terms.now) q _shift.now graph.old.bases first steps
+        → Joins (meanings T.places T.value_of terms.now) q _shift.now graph.new.bases first steps
         → ⊥) }
 {
     while let Some(first) = find_levels(

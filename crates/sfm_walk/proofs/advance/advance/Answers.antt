@@ -7,7 +7,6 @@ use Rattle.sfm_law.proofs.Rests.{rest-small}
 use Rattle.sfm_exchange.specs.Hops.{steps_of}
 use Rattle.sfm_exchange.specs.Levels.{depth_of}
 use Rattle.sfm_walk.specs.Run.{IsGreatest}
-use Rattle.sfm_walk.proofs.Advancing.{entries_small}
 use Rattle.sfm_walk.proofs.Augmenting.{amount_small, apart, bounds_still, ends_moved, first_at, in_order, last_at, progress, rest_after, spread}
 use Rattle.sfm_exchange.proofs.ClaimedGraphs.{are_terms, low, own}
 use Rattle.sfm_exchange.proofs.Following.{depth_bound}
@@ -43,36 +42,36 @@ greatest g c =
 
 pub most_of-most-requires-clause-first : goal.most_of-most-requires-clause-first
 most_of-most-requires-clause-first g c =
-    let rest = c.requires.run.is_rest in
-    rw c.deref.ensures.value (first_at c.requires.walk rest.places rest)
+    let rest = c.requires.running.at.is_rest in
+    rw c.deref.ensures.value (first_at c.requires.next.walk rest.places rest)
 
 pub most_of-most-requires-clause-last : goal.most_of-most-requires-clause-last
 most_of-most-requires-clause-last g c =
-    let rest = c.requires.run.is_rest in
-    rw (c.deref.ensures.value, c.last-last.ensures) (last_at c.requires.walk rest.places rest)
+    let rest = c.requires.running.at.is_rest in
+    rw (c.deref.ensures.value, c.last-last.ensures) (last_at c.requires.next.walk rest.places rest)
 
 pub most_of-most-requires-clause-under : goal.most_of-most-requires-clause-under
-most_of-most-requires-clause-under g c = rw c.deref.ensures.value c.requires.walk.course.under
+most_of-most-requires-clause-under g c = rw c.deref.ensures.value c.requires.next.walk.course.under
 
 pub most_of-most-requires-clause-over : goal.most_of-most-requires-clause-over
-most_of-most-requires-clause-over g c = rw (c.deref.ensures.value, c.last-last.ensures) c.requires.walk.course.over
+most_of-most-requires-clause-over g c = rw (c.deref.ensures.value, c.last-last.ensures) c.requires.next.walk.course.over
 
 pub most_of-most-requires-clause-small : goal.most_of-most-requires-clause-small
 most_of-most-requires-clause-small g c =
     let t = g.T.Term in
     let bases = c.args.graph.now.bases in
-    let b = c.requires.graph.bounded in
+    let b = c.requires.running.claimed.bounded in
     let shifts = c.requires.shifts in
-    rw c.deref.ensures.value (rest-small t.places t.value_of c.args.terms.now c.args._shift.now bases c.args.run.now.z.items c.requires.run.is_rest (entries_small bases c.requires.small) b.few_places (omega (arith, ints, shifts)))
+    rw c.deref.ensures.value (rest-small t.places t.value_of c.args.terms.now c.args._shift.now bases c.args.run.now.z.items c.requires.running.at.is_rest c.requires.running.small b.few_places (omega (arith, ints, shifts)))
 
 pub amount_of-requires-clause-graph : goal.amount_of-requires-clause-graph
-amount_of-requires-clause-graph g c = let fq : FitsSigned w128 c.args.q = c.ranges.q in simp to_z-of_z (own c.requires.graph)
+amount_of-requires-clause-graph g c = let fq : FitsSigned w128 c.args.q = c.ranges.q in simp to_z-of_z (own c.requires.running.claimed)
 
 pub amount_of-requires-clause-small : goal.amount_of-requires-clause-small
-amount_of-requires-clause-small g c = entries_small c.args.graph.now.bases c.requires.small
+amount_of-requires-clause-small g c = c.requires.running.small
 
 pub amount_of-requires-clause-movable : goal.amount_of-requires-clause-movable
-amount_of-requires-clause-movable g c = let fq : FitsSigned w128 c.args.q = c.ranges.q in simp to_z-of_z (rw c.deref-2.ensures.value c.requires.walk.movable)
+amount_of-requires-clause-movable g c = let fq : FitsSigned w128 c.args.q = c.ranges.q in simp to_z-of_z (rw c.deref-2.ensures.value c.requires.next.walk.movable)
 
 pub move_along-requires-clause-graph : goal.move_along-requires-clause-graph
 move_along-requires-clause-graph g c = own c.in_ok-a.ensures.graph
@@ -85,36 +84,36 @@ move_along-requires-clause-high g c =
     let fq : FitsSigned w128 c.args.q = c.ranges.q in
     let fa : FitsSigned w128 c.in_ok-a.a = search rules in
     let most = greatest g (goal.at.move_along-requires-clause-high g c).In_ok-a in
-    let rest = c.requires.run.is_rest in
-    simp to_z-of_z (amount_small c.requires.walk rest.places rest c.in_ok-a.a most.under c.requires.gap)
+    let rest = c.requires.running.at.is_rest in
+    simp to_z-of_z (amount_small c.requires.next.walk rest.places rest c.in_ok-a.a most.under c.requires.gap)
 
 pub move_along-requires-clause-order : goal.move_along-requires-clause-order
 move_along-requires-clause-order g c =
     let m = g.met.T.Term in
-    let h = c.requires.graph in
-    let rest = c.requires.run.is_rest in
+    let h = c.requires.running.claimed in
+    let rest = c.requires.running.at.is_rest in
     let fq : FitsSigned w128 c.args.q = c.ranges.q in
     let fa : FitsSigned w128 c.in_ok-a.a = search rules in
     let most = greatest g (goal.at.move_along-requires-clause-order g c).In_ok-a in
-    simp to_z-of_z (rw c.in_ok-a.ensures.bases (in_order c.requires.walk rest.places rest (low h) (are_terms h m.family m.submodular) h.are_bases c.in_ok-a.a most))
+    simp to_z-of_z (rw c.in_ok-a.ensures.bases (in_order c.requires.next.walk rest.places rest (low h) (are_terms h m.family m.submodular) h.are_bases c.in_ok-a.a most))
 
 pub move_along-requires-clause-falls : goal.move_along-requires-clause-falls
-move_along-requires-clause-falls g c = (depth_of c.args.run.now.levels.items, c.requires.walk.course.falls)
+move_along-requires-clause-falls g c = (depth_of c.args.run.now.levels.items, c.requires.next.walk.course.falls)
 
 pub settle-requires-clause-few : goal.settle-requires-clause-few
-settle-requires-clause-few g c = let few = c.requires.graph.bounded.few in rw c.requires.run.is_rest.places few
+settle-requires-clause-few g c = let few = c.requires.running.claimed.bounded.few in rw c.requires.running.at.is_rest.places few
 
 pub settle-requires-clause-first : goal.settle-requires-clause-first
-settle-requires-clause-first g c = let rest = c.requires.run.is_rest in first_at c.requires.walk rest.places rest
+settle-requires-clause-first g c = let rest = c.requires.running.at.is_rest in first_at c.requires.next.walk rest.places rest
 
 pub settle-requires-clause-last : goal.settle-requires-clause-last
-settle-requires-clause-last g c = let rest = c.requires.run.is_rest in last_at c.requires.walk rest.places rest
+settle-requires-clause-last g c = let rest = c.requires.running.at.is_rest in last_at c.requires.next.walk rest.places rest
 
 pub settle-requires-clause-apart : goal.settle-requires-clause-apart
-settle-requires-clause-apart g c = let rest = c.requires.run.is_rest in apart c.requires.walk rest.places rest
+settle-requires-clause-apart g c = let rest = c.requires.running.at.is_rest in apart c.requires.next.walk rest.places rest
 
 pub returns-clause-graph : goal.returns-clause-graph
-returns-clause-graph g c = over_word (over_word c.requires.graph c.in_ok-a.ensures.graph) c.in_ok-move_along.ensures.graph
+returns-clause-graph g c = over_word (over_word c.requires.running.claimed c.in_ok-a.ensures.graph) c.in_ok-move_along.ensures.graph
 
 pub returns-clause-advanced : goal.returns-clause-advanced
 returns-clause-advanced g c =
@@ -122,9 +121,9 @@ returns-clause-advanced g c =
     let fq : FitsSigned w128 c.args.q = c.ranges.q in
     let a = c.in_ok-a.a in
     let fa : FitsSigned w128 a = search rules in
-    let h = c.requires.graph in
-    let w = c.requires.walk in
-    let rest = c.requires.run.is_rest in
+    let h = c.requires.running.claimed in
+    let w = c.requires.next.walk in
+    let rest = c.requires.running.at.is_rest in
     let fit = are_terms h m.family m.submodular in
     let o = c.in_ok-a.ensures in
     let most = greatest g (goal.at.returns-clause-advanced g c).In_ok-a in
@@ -135,7 +134,7 @@ returns-clause-advanced g c =
     record {
       at = record {
         is_rest = rw z_is (rest_after w rest.places rest (low h) fit h.are_bases a most after moved);
-        signs = signs (ends_moved w rest.places rest (low h) fit h.are_bases a most) c.requires.run.signs;
+        signs = signs (ends_moved w rest.places rest (low h) fit h.are_bases a most) c.requires.running.at.signs;
       };
       progress = progress w rest.places rest (low h) fit h.are_bases a most after moved;
       spread = spread w rest.places rest (low h) fit h.are_bases a most after moved;
@@ -147,7 +146,7 @@ move_along-requires-clause-low g c =
     simp to_z-of_z c.in_ok-a.ensures.some
 
 pub move_along-requires-clause-named : goal.move_along-requires-clause-named
-move_along-requires-clause-named g c = c.requires.walk.named
+move_along-requires-clause-named g c = c.requires.next.walk.named
 
 pub settle-requires-clause-low : goal.settle-requires-clause-low
 settle-requires-clause-low g c = let some = c.in_ok-a.ensures.some in omega (arith, ints, some)
@@ -167,11 +166,11 @@ returns-clause-labels g c =
     let m = g.met.T.Term in
     let fq : FitsSigned w128 c.args.q = c.ranges.q in
     let fa : FitsSigned w128 c.in_ok-a.a = search rules in
-    let h = c.requires.graph in
-    let rest = c.requires.run.is_rest in
+    let h = c.requires.running.claimed in
+    let rest = c.requires.running.at.is_rest in
     let most = greatest g (goal.at.returns-clause-labels g c).In_ok-a in
-    let labels = c.requires.labels in
+    let labels = c.requires.next.labels in
     let moved = rw c.in_ok-a.ensures.bases at (simp to_z-of_z at c.in_ok-move_along.ensures.moved) in
-    let bounds = bounds_still c.requires.walk rest.places rest (low h) (are_terms h m.family m.submodular) h.are_bases c.in_ok-a.a most
+    let bounds = bounds_still c.requires.next.walk rest.places rest (low h) (are_terms h m.family m.submodular) h.are_bases c.in_ok-a.a most
     (λ e. let b = depth_bound c.args.run.now.levels.items e in let f = labels.few in omega (arith, b, f)) c.move_along.new.graph.bases moved in
     rw c.settle.ensures.levels (record { parted = labels.parted; few = labels.few; no_faster = bounds.falls; ends = bounds.lasts })

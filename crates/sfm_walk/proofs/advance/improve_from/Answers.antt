@@ -44,24 +44,17 @@ loop-run-init g c =
     } in
     simp to_z-of_z (start, omega arith, counting_none ts (length shift) c.args.q shift init c.args.steps.now, omega arith, rw c.run_at-run.ensures.levels (labels_none ts (length shift) c.args.q shift init))
 
-pub next_walk-requires-clause-graph : goal.next_walk-requires-clause-graph
-next_walk-requires-clause-graph g c = c.loop-run.invariant.0.whole
-
-pub next_walk-requires-clause-small : goal.next_walk-requires-clause-small
-next_walk-requires-clause-small g c = small_still c.loop-run.invariant.0 c.requires.small (10 ^ 30) (omega arith)
-
-pub advance-requires-clause-graph : goal.advance-requires-clause-graph
-advance-requires-clause-graph g c =
+pub next_walk-requires-clause-running : goal.next_walk-requires-clause-running
+next_walk-requires-clause-running g c =
     let fq : FitsSigned w128 c.args.q = c.ranges.q in
-    c.in_ok-next_walk.ensures.graph
+    let h = simp to_z-of_z at c.loop-run.invariant.0 in
+    simp to_z-of_z (record { claimed = h.whole; small = small_still h c.requires.small (10 ^ 30) (omega arith); at = h.at })
 
-pub advance-requires-clause-run : goal.advance-requires-clause-run
-advance-requires-clause-run g c = rw c.in_ok-next_walk.ensures.bases c.in_ok-next_walk.ensures.run
+pub advance-requires-clause-running : goal.advance-requires-clause-running
+advance-requires-clause-running g c = let fq : FitsSigned w128 c.args.q = c.ranges.q in c.in_ok-next_walk.ensures.running
 
-pub advance-requires-clause-walk : goal.advance-requires-clause-walk
-advance-requires-clause-walk g c =
-    let fq : FitsSigned w128 c.args.q = c.ranges.q in
-    rw c.in_ok-next_walk.ensures.bases (c.in_ok-next_walk.ensures.walk c.if-branch.true)
+pub advance-requires-clause-next : goal.advance-requires-clause-next
+advance-requires-clause-next g c = let fq : FitsSigned w128 c.args.q = c.ranges.q in c.in_ok-next_walk.ensures.next c.if-branch.true
 
 pub advance-requires-clause-small : goal.advance-requires-clause-small
 advance-requires-clause-small g c = rw c.in_ok-next_walk.ensures.bases (small_still c.loop-run.invariant.0 c.requires.small (5 * 10 ^ 29) (omega arith))
@@ -106,24 +99,21 @@ returns-clause-improved g c =
     let ts = meanings t.places t.value_of c.args.terms.now in
     let shift = c.args.shift.now in
     let fq : FitsSigned w128 c.args.q = c.ranges.q in
-    let h = simp to_z-of_z at c.in_ok-next_walk.ensures.graph in
+    let run = simp to_z-of_z at c.in_ok-next_walk.ensures.running in
+    let h = run.claimed in
     let none = simp to_z-of_z at (c.in_ok-next_walk.ensures.ends c.if-branch.false) in
-    let rest = c.in_ok-next_walk.ensures.run.is_rest in
     record {
       graph = h;
       optimal = record {
         bases = h.are_bases;
-        small = rw c.in_ok-next_walk.ensures.bases (small_still c.loop-run.invariant.0 c.requires.small (10 ^ 30) (omega arith));
-        ends = rw c.in_ok-next_walk.ensures.bases none;
-        proves = prove_if_none ts c.next_walk.new.graph.bases (length shift) c.args.q shift (low h) (are_terms h m.family m.submodular) h.are_bases (rw c.in_ok-next_walk.ensures.bases none);
+        small = run.small;
+        ends = none;
+        proves = prove_if_none ts c.next_walk.new.graph.bases (length shift) c.args.q shift (low h) (are_terms h m.family m.submodular) h.are_bases none;
       };
-      rest = rw (c.from_vec.ensures, c.in_ok-next_walk.ensures.bases) rest;
+      rest = rw c.from_vec.ensures run.at.is_rest;
       counted = rw c.in_ok-next_walk.ensures.bases (counting_is ts (length shift) c.args.q shift c.args.graph.now.bases c.loop-run.graph.bases c.args.steps.now c.loop-run.steps (simp to_z-of_z at c.loop-run.invariant.2));
       spread = rw c.in_ok-next_walk.ensures.bases c.loop-run.invariant.0.spread;
     }
-
-pub next_walk-requires-clause-run : goal.next_walk-requires-clause-run
-next_walk-requires-clause-run g c = c.loop-run.invariant.0.at
 
 pub advance-requires-clause-shifts : goal.advance-requires-clause-shifts
 advance-requires-clause-shifts g c = c.requires.shifts
@@ -151,11 +141,6 @@ returns-in_err-advance-clause-kept g c = c.loop-run.invariant.1
 
 pub next_walk-requires-clause-labels : goal.next_walk-requires-clause-labels
 next_walk-requires-clause-labels g c = let fq : FitsSigned w128 c.args.q = c.ranges.q in c.loop-run.invariant.4
-
-pub advance-requires-clause-labels : goal.advance-requires-clause-labels
-advance-requires-clause-labels g c =
-    let fq : FitsSigned w128 c.args.q = c.ranges.q in
-    rw c.in_ok-next_walk.ensures.bases (c.in_ok-next_walk.ensures.labels c.if-branch.true)
 
 pub rest_from-requires-clause-same : goal.rest_from-requires-clause-same
 rest_from-requires-clause-same g c = rw c.deref.ensures.value c.requires.graph.are_sums.places

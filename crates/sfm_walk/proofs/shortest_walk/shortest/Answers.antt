@@ -71,29 +71,26 @@ rest_of-requires-clause-shifts g c =
     let at = (goal.at.rest_of-requires-clause-shifts g c).After-deref in
     marks_small c.args.to.now c.args.from c.deref.result.now (marked g at) c.requires.bounded.few
 
-pub searched_walk-requires-clause-graph : goal.searched_walk-requires-clause-graph
-searched_walk-requires-clause-graph g c =
+pub searched_walk-requires : goal.searched_walk-requires
+searched_walk-requires g c =
     let fq : FitsSigned w128 c.args.q = c.ranges.q in
-    let r = c.requires in
-    let at = (goal.at.searched_walk-requires-clause-graph g c).After-deref-2 in
-    let exact = rw c.len.ensures at (simp to_z-of_z at c.in_ok-graph.ensures.graph) in
-    rw (known g at).count (simp to_z-of_z
-    (whole_claimed (record { bounded = r.bounded; factor = r.factor; exact = exact })))
-
-pub searched_walk-requires-clause-run : goal.searched_walk-requires-clause-run
-searched_walk-requires-clause-run g c =
     let t = g.T.Term in
     let r = c.requires in
-    let k = known g (goal.at.searched_walk-requires-clause-run g c).After-deref-2 in
+    let k = known g (goal.at.searched_walk-requires g c).After-deref-2 in
     let ts = meanings t.places t.value_of c.args.terms.now in
+    let exact = rw c.len.ensures at (simp to_z-of_z at c.in_ok-graph.ensures.graph) in
     let back = turned ts c.args.bases.now (length c.args.to.now) c.args.q k.low k.fit r.bases
     c.args.to.now c.args.from c.deref.result.now c.deref-2.result.now refl r.from r.apart
     k.marks k.shifted in
-    record {
-      is_rest = rw (c.in_ok-graph.ensures.bases, c.in_ok-copied.ensures, c.run_at-run.ensures.z)
-          (rw c.deref.ensures.value at back);
-      signs = rw c.run_at-run.ensures.z c.run_at-run.ensures.signs;
-    }
+    simp to_z-of_z (record {
+      claimed = rw k.count (whole_claimed (record { bounded = r.bounded; factor = r.factor; exact = exact }));
+      small = rw (c.in_ok-graph.ensures.bases, c.in_ok-copied.ensures) r.small;
+      at = record {
+        is_rest = rw (c.in_ok-graph.ensures.bases, c.in_ok-copied.ensures, c.run_at-run.ensures.z)
+            (rw c.deref.ensures.value at back);
+        signs = rw c.run_at-run.ensures.z c.run_at-run.ensures.signs;
+      };
+    })
 
 pub returns-then-not-branch : goal.returns-then-not-branch
 returns-then-not-branch g c =
@@ -102,7 +99,7 @@ returns-then-not-branch g c =
     let r = c.requires in
     let k = known g (goal.at.returns-then-not-branch g c).After-deref-2 in
     let ts = meanings t.places t.value_of c.args.terms.now in
-    let none = simp to_z-of_z at (rw (c.in_ok-graph.ensures.bases, c.in_ok-copied.ensures)
+    let none = simp to_z-of_z at (rw (c.in_ok-searched_walk.ensures.bases, c.in_ok-graph.ensures.bases, c.in_ok-copied.ensures)
     at (c.in_ok-searched_walk.ensures.ends c.if-not-branch.true)) in
     none_leads ts c.args.bases.now (length c.args.to.now) c.args.q k.low k.fit r.bases
     c.args.to.now c.args.from c.deref.result.now c.deref-2.result.now refl r.from r.apart
@@ -116,8 +113,9 @@ returns g c =
     let k = known g (goal.at.returns g c).After-deref-2 in
     let ts = meanings t.places t.value_of c.args.terms.now in
     let run = c.searched_walk.new.run in
-    let walk = simp to_z-of_z at (rw (c.in_ok-graph.ensures.bases, c.in_ok-copied.ensures)
-    at (c.in_ok-searched_walk.ensures.walk c.if-not-branch.false)) in
+    let next = simp to_z-of_z at (c.in_ok-searched_walk.ensures.next c.if-not-branch.false) in
+    let walk = rw (c.in_ok-searched_walk.ensures.bases, c.in_ok-graph.ensures.bases, c.in_ok-copied.ensures)
+    at next.walk in
     rw (c.in_ok-steps.ensures, c.deref-3.ensures.value)
     (one_leads ts c.args.bases.now (length c.args.to.now) c.args.q k.low k.fit r.bases
     c.args.to.now c.args.from c.deref.result.now c.deref-2.result.now refl r.from r.apart
