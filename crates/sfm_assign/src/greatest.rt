@@ -10,7 +10,7 @@ use sfm_cells::Demand;
 use std::alloc::Global;
 
 /// The sum of the capacities.
-fn sum_of(capacities: &[i128]) -> i128
+fn total_of(capacities: &[i128]) -> i128
     requires few { length capacities.now ≤ 2 ^ 24 }
     requires bounded { All IsCapacity capacities.now }
     ensures total { result ≡ total_of capacities.now }
@@ -24,7 +24,7 @@ fn sum_of(capacities: &[i128]) -> i128
 }
 
 /// The same demands, with nothing for u.
-fn without(alloc: Global, demand: &Demand, u: usize) -> Result<Demand, Memory>
+fn without_demand(alloc: Global, demand: &Demand, u: usize) -> Result<Demand, Memory>
     requires { u < length demand.now.demands }
     ensures { IfOk result (λ r. r ≡ record {
       demands = slice_set demand.now.demands u (pos 0);
@@ -49,8 +49,8 @@ pub fn most(alloc: Global, demand: &Demand, u: usize) -> Result<i128, Memory>
     ensures { IfOk result (IsMost demand.now.demands demand.now.lists demand.now.capacities u) }
 {
     let _sound = demand.demands();
-    let others = without(alloc, demand, u)?;
-    let limit = sum_of(demand.capacities());
+    let others = without_demand(alloc, demand, u)?;
+    let limit = total_of(demand.capacities());
     match Kept::new(alloc, others) {
         Ok(mut kept) => {
             let more = kept.grow(alloc, u, limit)?;

@@ -486,13 +486,13 @@ impl Kept {
     }
 
     /// Makes room for what is told of each demand.
-    fn widen(&mut self) -> Result<(), Memory>
+    fn make_room(&mut self) -> Result<(), Memory>
         ensures same { self.new.demand ≡ self.old.demand }
         ensures places { OnOk result (length self.new.beside.answers
             ≡ length self.new.demand.demands) }
     {
         let n = self.demand.demands().len();
-        self.beside.answers.widen(n)
+        self.beside.answers.make_room(n)
     }
 
     /// Gathers what the demand u leads to, but for u itself; tells whether a slot with room is led to.
@@ -562,7 +562,7 @@ impl Kept {
             ↔ IsLender self.old.demand.demands self.old.demand.lists self.old.demand.capacities u
             v) }
     {
-        self.widen()?;
+        self.make_room()?;
         let room = self.gather(alloc, u, to)?;
         self.write_lenders(room, u, to);
         Ok(())

@@ -132,7 +132,7 @@ impl Spread {
     }
 
     /// Makes room for a note of each of m slots.
-    fn widen(&mut self, m: usize) -> Result<(), Memory>
+    fn make_room(&mut self, m: usize) -> Result<(), Memory>
         ensures from { self.new.from ≡ self.old.from }
         ensures found { self.new.found ≡ self.old.found }
         ensures marks { self.new.marks ≡ self.old.marks }
@@ -168,7 +168,7 @@ impl Spread {
         self.queue.push(u)?;
         self.from = u;
         self.next = 0;
-        self.widen(m)
+        self.make_room(m)
     }
 
     /// Takes out what was found; an idle set, or else a new one, stands in its place.

@@ -63,7 +63,7 @@ impl Told {
     }
 
     /// Makes room for what is told of n demands, of which nothing new is told.
-    pub(crate) fn widen(&mut self, n: usize) -> Result<(), Memory>
+    pub(crate) fn make_room(&mut self, n: usize) -> Result<(), Memory>
         requires { length self.old ≤ n }
         ensures within { length self.new ≤ n }
         ensures same { (u : ℕ) → answer_at self.new u ≡ answer_at self.old u }

@@ -8,7 +8,7 @@ ghost use Rattle.sfm_cert.specs.{Form.{IsFormed, IsFormedBlock}, Solved.{answer_
 ghost use Rattle.sfm_check.specs.{Truth.{IsTrueHead}, Verdict.{IsFirstWrong}, Findings.{IsFirstUnlike, IsToldOf, IsTrueMinimum, AreTold, IsWrongLine, SaysTheSame}, Due.{due_answer}, Offers.{IsOffer, IsShort, meant, of_offer, of_section, said}};
 
 use crate::chain::first_wrong_slope;
-use crate::kept::tell_kept;
+use crate::instance::tell_kept;
 use crate::offer::Offer;
 use crate::same::are_same;
 use sfm_base::Memory;

@@ -10,7 +10,7 @@ ghost use Rattle.sfm_check.specs.{Verdict.{IsVerdict}, Findings.{AllRowsAreBases
 
 use crate::bases::first_no_base;
 use crate::head::first_wrong;
-use crate::kept::tell_kept;
+use crate::instance::tell_kept;
 use crate::offer::Offer;
 use crate::right::is_right;
 use crate::sections::{Sections, prove_sections};

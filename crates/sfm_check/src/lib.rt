@@ -4,8 +4,8 @@
 mod bases;
 mod chain;
 mod head;
+mod instance;
 mod judging;
-mod kept;
 mod minimum;
 mod offer;
 mod right;

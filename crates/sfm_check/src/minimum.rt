@@ -11,7 +11,7 @@ ghost use Rattle.sfm_check.specs.{Truth.{IsProvedSection}, Findings.{AllRowsAreB
 
 use crate::chain::before;
 use crate::head::first_unlike;
-use crate::kept::tell_kept;
+use crate::instance::tell_kept;
 use crate::offer::Offer;
 use crate::same::are_same;
 use crate::values::deficit_at;

@@ -4,7 +4,7 @@
 ghost use Rattle.std.specs.Prelude.{IsTrue, IfOk};
 ghost use Rattle.sfm_check.specs.{Truth.{IsTrueHead}, Findings.{AllAreProved, AllRowsAreBases}, Offers.{IsOffer, meant, of_offer, said}};
 
-use crate::kept::tell_kept;
+use crate::instance::tell_kept;
 use crate::minimum::is_minimum_right;
 use crate::offer::Offer;
 use crate::values::are_slopes_right;

@@ -9,7 +9,7 @@ ghost use Rattle.sfm_cert.specs.{Form.{AreFormedRows, IsFormedBreak}, Solved.{br
 ghost use Rattle.sfm_sizes.specs.Sizes.{AreElementSizes};
 ghost use Rattle.sfm_check.specs.{Findings.{AllRowsAreBases}, Values.{AreRightSlopes, Ascends, Attains, IsSmall, IsWorth}, Offers.{IsOffer, meant, of_offer, said}};
 
-use crate::kept::tell_kept;
+use crate::instance::tell_kept;
 use crate::offer::Offer;
 use crate::worth::{Worth, worth_of};
 use sfm_base::{Memory, Rows, Set, Slope};

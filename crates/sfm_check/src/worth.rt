@@ -21,7 +21,7 @@ pub struct Worth {
 }
 
 /// The sum of all terms at a set, or None where a term does not allow its part.
-fn sum_of(alloc: Global, terms: &[Kind], set: &Set) -> Result<Option<i128>, Memory>
+fn sum_at(alloc: Global, terms: &[Kind], set: &Set) -> Result<Option<i128>, Memory>
     requires { AreInBounds (length set.now) terms.now }
     ensures { IfOk result (λ r. IfSome r (λ a. IsAllowed
         (meanings kind_places kind_value terms.now) set.now
@@ -52,7 +52,7 @@ pub fn worth_of(
         instance.now.terms) sizes.now set.now)) }
     ensures small { IfOk result (λ r. IfSome r IsSmall) }
 {
-    match sum_of(alloc, instance.terms(), set)? {
+    match sum_at(alloc, instance.terms(), set)? {
         Some(sum) => Ok(Some(Worth {
             size: set.size(),
             weight: weight_of(set, sizes),

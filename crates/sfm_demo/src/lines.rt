@@ -11,7 +11,7 @@ use crate::words::{ELEMENTS, write_items, write_numbers, write_run, write_set, w
 use std::alloc::AllocError;
 
 /// The element that stands d + 1 behind a.
-fn behind(a: u64, d: u64) -> u64
+fn other_than(a: u64, d: u64) -> u64
     requires first { a < 200 }
     requires distance { d < 199 }
     ensures { result ≡ (a + 1 + d) % 200 }
@@ -26,7 +26,7 @@ pub fn write_cut(out: &mut String, draws: &mut Draws) -> Result<(), AllocError>
 {
     let c = draws.draw(400);
     let a = draws.draw(200);
-    let b = behind(a, draws.draw(199));
+    let b = other_than(a, draws.draw(199));
     write!(out, "cut {c} e{a} e{b}")
 }
 
@@ -36,7 +36,7 @@ pub fn write_need(out: &mut String, draws: &mut Draws) -> Result<(), AllocError>
         (string_bytes out.new) draws.old draws.new) }
 {
     let a = draws.draw(200);
-    let b = behind(a, draws.draw(199));
+    let b = other_than(a, draws.draw(199));
     write!(out, "need e{a} e{b}")
 }
 

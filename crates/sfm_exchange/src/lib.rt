@@ -6,10 +6,10 @@
 
 mod claims;
 mod graph;
-mod kept;
 mod levels;
 mod moving;
 mod multiples;
+mod noted;
 mod path;
 mod renewing;
 mod signs;

@@ -6,7 +6,7 @@ ghost use Rattle.sfm_spec.specs.{Bounds.{IsAtMost, IsEntry}, Terms.{exchanged}, 
 ghost use Rattle.sfm_exchange.specs.{Graph.{IsClaimed}, Hops.{CanExchange, IsMovable, Moves, AreNamed, AreInOrder, hop_at, steps_of}};
 
 use crate::graph::Graph;
-use crate::kept::{move_kept, renew_kept, room_kept};
+use crate::noted::{move_kept, renew_kept, room_kept};
 use crate::path::{Hop, Path};
 use crate::sums::move_sums;
 use sfm_base::Memory;

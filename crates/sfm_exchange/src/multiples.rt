@@ -8,7 +8,7 @@ ghost use Rattle.sfm_exchange.specs.{Graph.{IsClaimed, IsShaped}, Scaled.{rows_t
 ghost use Rattle.sfm_reach.specs.{Reach.{AreNotes, AreSized, kept_fits}};
 
 use crate::graph::{Graph, blank_graph};
-use crate::kept::kept_times;
+use crate::noted::kept_times;
 use crate::sums::multiply;
 use sfm_base::Memory;
 use sfm_law::{At, Term};

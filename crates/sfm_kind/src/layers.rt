@@ -97,7 +97,7 @@ impl Layers {
 }
 
 /// The level behind level j, or 0 behind the last.
-fn behind(levels: &[i128], j: usize) -> i128
+fn next_level(levels: &[i128], j: usize) -> i128
     requires { j < length levels.now }
     ensures { result ≡ level_behind levels.now j }
 {
@@ -200,7 +200,7 @@ impl Kind {
             (slice_index_or levels.now j (pos 0)) (level_behind levels.now j) r) }
     {
         let level = levels[j];
-        let step = level - behind(levels, j);
+        let step = level - next_level(levels, j);
         let keep = places_from(alloc, weights, level)?;
         let rank = self.rank_over(alloc, &keep)?;
         self.restricted(alloc, &keep, self.layer_factor(rank, step))
@@ -227,7 +227,7 @@ impl Kind {
             (slice_index_or levels.now j (pos 0)) (level_behind levels.now j) r.places r.size) }
     {
         let level = levels[j];
-        let step = level - behind(levels, j);
+        let step = level - next_level(levels, j);
         let keep = places_from(alloc, weights, level)?;
         let rank = self.rank_over(alloc, &keep)?;
         let each = self.factor() * step;

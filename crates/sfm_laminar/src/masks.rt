@@ -24,7 +24,7 @@ impl Model for Masks {
 }
 
 /// The listed places, as a set of k.
-fn set_of(alloc: Global, members: &[usize], k: usize) -> Result<Set, Memory>
+fn mask_of(alloc: Global, members: &[usize], k: usize) -> Result<Set, Memory>
     requires ascending { IsAscending members.now }
     requires below { All (λ e. e < k) members.now }
     ensures { IfOk result (λ s. s ≡ mask k members.now) }
@@ -45,7 +45,7 @@ impl Masks {
         let mut sets = Vec::new(alloc);
         for i in 0..groups.len() {
             let group = groups.group(i);
-            sets.push(set_of(alloc, group.members(), k)?)?;
+            sets.push(mask_of(alloc, group.members(), k)?)?;
         }
         Ok(Masks { sets })
     }

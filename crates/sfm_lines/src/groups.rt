@@ -6,7 +6,7 @@ ghost use Rattle.sfm_laminar.specs.Crossing.{IsCrossing};
 ghost use Rattle.sfm_spec.specs.Bounds.{IsAtMost};
 ghost use Rattle.sfm_lines.specs.{Lines.{texts_of, text_lists_of}, LabelTerms.{distinct_of}, RankLines.{is_among, members_of, groups_of}, LeastGroups.{least_groups}, TermLines.{StandsTwice}, ReadParts.{AreGiven, IsTermOf, parts_of}, declared.word.TermWord.TheVariants.{RankWord}, declared.word.RankKind.TheVariants.{LaminarRank}};
 
-use crate::kept::{keep, with_kept};
+use crate::least_groups::{keep, with_kept};
 use crate::parts::Parts;
 use indexmap::IndexSet;
 use sfm_base::Memory;

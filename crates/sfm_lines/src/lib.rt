@@ -4,9 +4,9 @@
 
 mod graphic_line;
 pub mod groups;
-pub mod kept;
 pub mod labels;
 pub mod laminar_line;
+pub mod least_groups;
 mod line_fault;
 pub mod line_parts;
 mod names;

@@ -38,7 +38,7 @@ pub fn pull_of(x: &[i128], cap: i128, swap: &Swap) -> Pull
 }
 
 /// The entries, with nothing in a place.
-fn without(alloc: Global, x: &[i128], v: usize) -> Result<Vec<i128>, Memory>
+fn emptied_at(alloc: Global, x: &[i128], v: usize) -> Result<Vec<i128>, Memory>
     requires { v < length x.now }
     ensures { IfOk result (λ r. r.items ≡ slice_set x.now v (pos 0)) }
 {
@@ -84,7 +84,7 @@ pub(crate) fn raise(
     ensures grown { IfOk result (λ r. second.new.demand ≡ with_more
         (rest_of kept.now.demand x.now pull.now.v held.now) pull.now.u r) }
 {
-    let rest = without(alloc, x, pull.v)?;
+    let rest = emptied_at(alloc, x, pull.v)?;
     let aim = Aim {
         demands: &rest,
         capacities: held,

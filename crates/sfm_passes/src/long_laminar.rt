@@ -17,7 +17,7 @@ use sfm_base::Memory;
 use sfm_kind::{Instance, Kind};
 use sfm_laminar::{CappedGroup, Laminar};
 use sfm_lines::groups::members;
-use sfm_lines::kept::{keep, with_kept};
+use sfm_lines::least_groups::{keep, with_kept};
 use sfm_lines::separator::is_separator;
 use sfm_lines::term_line::{known_number, known_places};
 use sfm_lines::tokens::{first_token, has_token, tokens};

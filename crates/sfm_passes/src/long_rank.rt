@@ -19,7 +19,7 @@ use sfm_lines::word::{RankKind, TermWord, is_word};
 pub const MOST_ELEMENTS: usize = 256;
 
 /// The most tokens behind the word of a uniform rank in a line that is not long.
-const MOST_TOKENS: usize = 1_000;
+const MOST_RANK_TOKENS: usize = 1_000;
 
 /// Which rank a token means.
 pub fn rank_kind(token: &[u8]) -> RankKind
@@ -161,7 +161,7 @@ fn long_uniform_reason(instance: &Instance, number: &[u8], behind: &[u8]) -> Opt
     ensures { IfSome result (IsReasonOf instance.now RankWord
         (number.now ∷ codes "uniform" ∷ tokens_of behind.now)) }
 {
-    if !has_token(behind, MOST_TOKENS) {
+    if !has_token(behind, MOST_RANK_TOKENS) {
         return None;
     }
     Some(uniform_reason(instance, number, behind))

@@ -2,7 +2,7 @@
 ghost use Rattle.std.specs.Prelude.{◌≡◌, map, length, OnOk};
 ghost use Rattle.sfm_reach.specs.{Asked.{AreAllAsked}, Based.{AreBased}, Reach.{AreNotes, AreSized, kept_fits}};
 
-use crate::kept::ask_kept;
+use crate::noted::ask_kept;
 use crate::reach::{Based, BitRows};
 use sfm_base::{Memory, Rows};
 use sfm_law::{At, Term};

@@ -162,7 +162,7 @@ pub fn slope_of(bytes: &[u8]) -> Option<Slope>
     let (front, back) = split_at_first(bytes, b'/')?;
     let p = read_entry(front)?;
     let q = read_entry(back)?;
-    lowest(p, q)
+    in_lowest_terms(p, q)
 }
 
 /// The bytes before and behind the first byte of that value.
@@ -176,7 +176,7 @@ pub fn split_at_first(bytes: &[u8], value: u8) -> Option<(&[u8], &[u8])>
 }
 
 /// The slope p/q, where q is from 1 to 1,000,000 and p/q is in lowest terms.
-fn lowest(p: i128, q: i128) -> Option<Slope>
+fn in_lowest_terms(p: i128, q: i128) -> Option<Slope>
     requires { IsEntry p }
     ensures { MatchOption result
         (IsLowest p q → IsFactor q → ⊥)

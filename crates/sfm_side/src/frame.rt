@@ -7,7 +7,8 @@ ghost use Rattle.std.specs.Prelude.{◌≡◌, ◌∷◌, [], codes, IfOk, IfErr
 ghost use Rattle.sfm_side.specs.Frame.{IsInner, IsLineWith, IsHeaderReason, IsPastReason, IsDueLine};
 
 use sfm_text::{
-    Line, Lines, Reason, TEXT_LIMIT, TextEnd, are_good_bytes, behind, is_last, is_version, token,
+    Line, Lines, Reason, TEXT_LIMIT, TextEnd, are_good_bytes, behind_token, is_last, is_version,
+    token,
 };
 
 /// The lines of a text that stand between its header and its end.
@@ -36,7 +37,7 @@ fn header_reason(word: &[u8], line: &[u8]) -> Option<Reason>
     if !are_good_bytes(line) {
         return Some(Reason::Bytes);
     }
-    let Some(rest) = behind(word, line) else {
+    let Some(rest) = behind_token(line, word) else {
         return Some(Reason::Word);
     };
     if is_version(rest) {

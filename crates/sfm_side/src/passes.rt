@@ -11,7 +11,7 @@ use sfm_lines::tokens::first_token;
 use sfm_passes::{is_known, is_pair, is_pair_element};
 
 /// The greatest size.
-pub const MOST_SIZE: i128 = 1_000_000;
+pub const MOST_ELEMENT_SIZE: i128 = 1_000_000;
 
 /// What a token may be tried for.
 #[derive(Clone, Copy)]
@@ -33,7 +33,7 @@ pub fn size_for(text: &[u8]) -> Option<i128>
     let Some(value) = read_number(text) else {
         return None;
     };
-    if 1 <= value && value <= MOST_SIZE {
+    if 1 <= value && value <= MOST_ELEMENT_SIZE {
         Some(value)
     } else {
         None

@@ -13,7 +13,7 @@ use sfm_base::Set;
 use sfm_kind::Instance;
 use sfm_lines::tokens::first_token;
 use sfm_passes::has_separator_in;
-use sfm_text::{Reason, TextEnd, behind};
+use sfm_text::{Reason, TextEnd, behind_token};
 use std::alloc::Global;
 
 /// The members that a set must have, and those that it must not have, as sets of the elements of an instance.
@@ -36,10 +36,10 @@ fn pin_of(line: &[u8]) -> Option<(Pin, &[u8])>
         ((pin : Pin) (rest : List (List ℕ)) → tokens_of line.now ≢ pin_word pin ∷ rest)
         (λ r. tokens_of line.now ≡ pin_word r.0 ∷ tokens_of r.1.now) }
 {
-    if let Some(rest) = behind(b"in", line) {
+    if let Some(rest) = behind_token(line, b"in") {
         return Some((Pin::In, rest));
     }
-    if let Some(rest) = behind(b"out", line) {
+    if let Some(rest) = behind_token(line, b"out") {
         return Some((Pin::Out, rest));
     }
     None

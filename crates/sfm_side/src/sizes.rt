@@ -12,11 +12,11 @@ ghost use Rattle.sfm_side.specs.{Side.{side_language, ended}, Frame.{IsTold}, Si
 ghost use Rattle.sfm_side.specs.declared.passes.TokenTest.TheVariants.{Pair, PairSize, PairElement};
 
 use crate::frame::Frame;
-use crate::passes::{MOST_SIZE, TokenTest, all_pass, size_for};
+use crate::passes::{MOST_ELEMENT_SIZE, TokenTest, all_pass, size_for};
 use sfm_kind::Instance;
 use sfm_lines::pair::cut_pair;
 use sfm_lines::tokens::first_token;
-use sfm_text::{Reason, TextEnd, behind};
+use sfm_text::{Reason, TextEnd, behind_token};
 use std::alloc::Global;
 
 /// What an element counts by its number: its size, or 1 where it was not named.
@@ -116,7 +116,7 @@ fn take_line(instance: &Instance, kept: &mut [i128], line: &[u8]) -> Option<Reas
         result (given_of kept.new) }
     ensures kept { AreKept (length instance.now.names) kept.new }
 {
-    let Some(rest) = behind(b"size", line) else {
+    let Some(rest) = behind_token(line, b"size") else {
         return Some(Reason::Word);
     };
     if let Some(reason) = pairs_reason(instance, rest) {
@@ -126,7 +126,7 @@ fn take_line(instance: &Instance, kept: &mut [i128], line: &[u8]) -> Option<Reas
     if !put_sizes(instance, kept, rest) {
         return Some(Reason::Twice);
     }
-    if total_size(kept) > MOST_SIZE {
+    if total_size(kept) > MOST_ELEMENT_SIZE {
         return Some(Reason::Total);
     }
     None

@@ -21,7 +21,7 @@ pub struct Cover {
 }
 
 /// Whether no entry is negative.
-fn are_counts(x: &[i128]) -> bool
+fn none_negative(x: &[i128]) -> bool
     ensures { IsTrue result ↔ All (λ a. pos 0 ≤ℤ a) x.now }
 {
     x.iter().all(|a| *a >= 0)
@@ -114,7 +114,7 @@ impl Plain for Cover {
 
     /// Whether x is a base of q times the term.
     fn is_base_of(&self, q: i128, x: &[i128]) -> bool {
-        are_counts(x) && has_sum(x, product(q, self.w))
+        none_negative(x) && has_sum(x, product(q, self.w))
     }
 
     /// The room of (u, v) at a base: what v has.

@@ -81,7 +81,7 @@ impl Weight {
     }
 
     /// The sum of a part's numbers.
-    fn sum_of(&self, s: &Set) -> i128
+    fn weight_of(&self, s: &Set) -> i128
         requires { length s.now ≡ length self.now.places }
         ensures { result ≡ sum_over s.now self.now.weights }
     {
@@ -151,7 +151,7 @@ impl Plain for Weight {
 
     /// The value of a part: every part is allowed.
     fn value_of(&self, _alloc: Global, s: &Set) -> Result<Option<i128>, Memory> {
-        Ok(Some(self.sum_of(s)))
+        Ok(Some(self.weight_of(s)))
     }
 
     /// Writes the one base of q times the term.

@@ -35,7 +35,7 @@ pub fn worth_of<T: Term>(
 {
     let size = set.size();
     let weight = weight_of(&set, sizes);
-    let sum = sum_of(alloc, terms, &set)?;
+    let sum = sum_at(alloc, terms, &set)?;
     Ok(Worth {
         set,
         size,
@@ -45,7 +45,7 @@ pub fn worth_of<T: Term>(
 }
 
 // The sum of all terms at a set.
-fn sum_of<T: Term>(alloc: Global, terms: &[T], set: &Set) -> Result<i128, Memory>
+fn sum_at<T: Term>(alloc: Global, terms: &[T], set: &Set) -> Result<i128, Memory>
     requires bounded { AreBounded (length set.now) (map T.places terms.now)
         (map T.size_of terms.now) }
     ensures value { IfOk result (λ r. r ≡ sum_at (meanings T.places T.value_of terms.now) set.now) }

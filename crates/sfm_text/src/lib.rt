@@ -12,6 +12,6 @@ pub use added::{add_line, are_good_bytes};
 pub use end::TextEnd;
 pub use lines::{Line, Lines, content_lines};
 pub use reader::{Numbered, Reader, TEXT_LIMIT, read_instance, read_numbered, read_pieces};
-pub use reading::{behind, is_last, is_version};
+pub use reading::{behind_token, is_last, is_version};
 pub use sfm_lines::tokens::token;
 pub use sfm_lines::{LineEnd, Reason};

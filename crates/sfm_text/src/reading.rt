@@ -33,7 +33,7 @@ impl Drop for Reading {
 }
 
 /// The line behind a word, or None where its first token is another.
-pub fn behind<'a>(word: &[u8], line: &'a [u8]) -> Option<&'a [u8]>
+pub fn behind_token<'a>(line: &'a [u8], word: &[u8]) -> Option<&'a [u8]>
     ensures { MatchOption result
         ((rest : List (List ℕ)) → tokens_of line.now ≢ word.now ∷ rest)
         (λ rest. tokens_of line.now ≡ word.now ∷ tokens_of rest.now) }
@@ -50,7 +50,7 @@ fn has_only(word: &[u8], line: &[u8]) -> bool
         (tokens_of line.now ≡ word.now ∷ [])
         (tokens_of line.now ≢ word.now ∷ []) }
 {
-    match behind(word, line) {
+    match behind_token(line, word) {
         Some(more) => first_token(more).is_none(),
         None => false,
     }
@@ -220,7 +220,7 @@ impl Reading {
         ensures { IsOutcome (state_at Header self.old.instance) (tokens_of line.now) result
             (state_of self.new) }
     {
-        let Some(rest) = behind(b"sfm", line) else {
+        let Some(rest) = behind_token(line, b"sfm") else {
             return Err(LineEnd::Fault(Reason::Word));
         };
         let Some(version) = version_behind(rest) else {
@@ -237,7 +237,7 @@ impl Reading {
         ensures { IsOutcome (state_at Ground self.old.instance) (tokens_of line.now) result
             (state_of self.new) }
     {
-        let Some(rest) = behind(b"ground", line) else {
+        let Some(rest) = behind_token(line, b"ground") else {
             return Err(LineEnd::Fault(Reason::Word));
         };
         let fault = names_fault(alloc, rest)?;

@@ -15,29 +15,29 @@ pub grow-requires-clause-small : goal.grow-requires-clause-small
 grow-requires-clause-small c =
     let d = c.args.demand.now in
     let same = others (goal.at.grow-requires-clause-small c).In-Ok in
-    let s : ℤ = c.sum_of-limit.result in
+    let s : ℤ = c.total_of-limit.result in
     let fs : FitsSigned w128 s = search rules in
     let none = ap (λ (k : Demands). amount_at k.demands c.args.u) same ∙ changed-at d.demands c.args.u c.requires.place (pos 0) in
-    let low = c.sum_of-limit.ensures.amount.low in
-    let high = c.sum_of-limit.ensures.amount.high in
+    let low = c.total_of-limit.ensures.amount.low in
+    let high = c.total_of-limit.ensures.amount.high in
     record { low = omega (arith, ints, none, low); high = omega (arith, ints, none, high) }
 
 pub returns-in-Ok : goal.returns-in-Ok
 returns-in-Ok c =
     let d = c.args.demand.now in
     let same = others (goal.at.returns-in-Ok c).In-Ok in
-    let s : ℤ = c.sum_of-limit.result in
+    let s : ℤ = c.total_of-limit.result in
     let fs : FitsSigned w128 s = search rules in
     let g : ℤ = c.in_ok-more-in-Ok.more in
     let fg : FitsSigned w128 g = search rules in
     let h = rw (same, to_z-of_z w128 s fs) at c.in_ok-more-in-Ok.ensures.most in
-    rw (to_z-of_z w128 g fg) (most_from d c.demands-sound.ensures.sound c.args.u c.requires.place s g (c.sum_of-limit.ensures.total ∙ ap total_of c.capacities.ensures) h)
+    rw (to_z-of_z w128 g fg) (most_from d c.demands-sound.ensures.sound c.args.u c.requires.place s g (c.total_of-limit.ensures.total ∙ ap total_of c.capacities.ensures) h)
 
-pub sum_of-limit-requires-clause-few : goal.sum_of-limit-requires-clause-few
-sum_of-limit-requires-clause-few c = rw c.capacities.ensures c.demands-sound.ensures.sound.few_slots
+pub total_of-limit-requires-clause-few : goal.total_of-limit-requires-clause-few
+total_of-limit-requires-clause-few c = rw c.capacities.ensures c.demands-sound.ensures.sound.few_slots
 
-pub sum_of-limit-requires-clause-bounded : goal.sum_of-limit-requires-clause-bounded
-sum_of-limit-requires-clause-bounded c = rw c.capacities.ensures c.demands-sound.ensures.sound.bounded
+pub total_of-limit-requires-clause-bounded : goal.total_of-limit-requires-clause-bounded
+total_of-limit-requires-clause-bounded c = rw c.capacities.ensures c.demands-sound.ensures.sound.bounded
 
 pub grow-requires-clause-place : goal.grow-requires-clause-place
 grow-requires-clause-place c =
@@ -48,6 +48,6 @@ grow-requires-clause-place c =
 
 pub grow-requires-clause-low : goal.grow-requires-clause-low
 grow-requires-clause-low c =
-    let s : ℤ = c.sum_of-limit.result in
+    let s : ℤ = c.total_of-limit.result in
     let fs : FitsSigned w128 s = search rules in
-    simp to_z-of_z c.sum_of-limit.ensures.amount.low
+    simp to_z-of_z c.total_of-limit.ensures.amount.low

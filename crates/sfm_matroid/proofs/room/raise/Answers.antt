@@ -7,8 +7,8 @@ use Rattle.sfm_matroid.proofs.room.raise.Goals as goal
 rest : (c : After-aim-1) → c.deref.result.now ≡ set c.args.x.now c.args.pull.now.v (pos 0)
 rest c = c.deref.ensures.value ∙ c.in_ok-rest.ensures
 
-pub without-requires : goal.without-requires
-without-requires c = c.requires.raise.onto
+pub emptied_at-requires : goal.emptied_at-requires
+emptied_at-requires c = c.requires.raise.onto
 
 pub grow_from-requires-clause-lists : goal.grow_from-requires-clause-lists
 grow_from-requires-clause-lists c = c.requires.beside.lists

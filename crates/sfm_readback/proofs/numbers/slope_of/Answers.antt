@@ -47,4 +47,4 @@ returns c =
     let q = c.in_ok-q.q in
     let f : FitsSigned w128 p = entry_fits p hp.0 in
     let g : FitsSigned w128 q = entry_fits q hq.0 in
-    found c.args.bytes.now c.in_ok-front.front.now c.in_ok-front.back.now p q c.lowest.result s.0 s.1 hp.0 hp.1 hq.0 hq.1 (simp to_z-of_z at c.lowest.ensures)
+    found c.args.bytes.now c.in_ok-front.front.now c.in_ok-front.back.now p q c.in_lowest_terms.result s.0 s.1 hp.0 hp.1 hq.0 hq.1 (simp to_z-of_z at c.in_lowest_terms.ensures)

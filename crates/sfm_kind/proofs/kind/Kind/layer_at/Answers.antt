@@ -26,7 +26,7 @@ numbered c =
     let fr : FitsSigned w128 c.in_ok-rank.rank = search rules in
     let keep : c.in_ok-keep.keep ≡ at_least v c.args.weights.now = simp to_z-of_z at c.in_ok-keep.ensures in
     let over : IsRankOver c.args.self.now (at_least v c.args.weights.now) c.in_ok-rank.rank = rw keep at c.in_ok-rank.ensures in
-    let choice = simp to_z-of_z at (rw c.behind.ensures at c.layer_factor.ensures) in
+    let choice = simp to_z-of_z at (rw c.next_level.ensures at c.layer_factor.ensures) in
     layer-number c.args.self.now c.args.weights.now levels c.args.j c.in_ok-rank.rank c.layer_factor.result c.requires.rank c.requires.each c.requires.weights c.requires.levels c.requires.within c.requires.small over choice
 
 pub overflow_sub-step : goal.overflow_sub-step
@@ -35,7 +35,7 @@ overflow_sub-step c =
     let is = step-is c.args.weights.now levels c.args.j c.requires.weights c.requires.levels c.requires.within in
     let fv : FitsSigned w128 (get_or levels c.args.j (pos 0)) = omega (arith, ints, is.low, is.high) in
     let fn : FitsSigned w128 (level_behind levels c.args.j) = omega (arith, ints, is.high, is.next_low, is.step_low) in
-    rw c.behind.ensures (simp to_z-of_z (omega (arith, ints, is.low, is.high, is.next_low, is.step_low)))
+    rw c.next_level.ensures (simp to_z-of_z (omega (arith, ints, is.low, is.high, is.next_low, is.step_low)))
 
 pub layer_factor-requires-clause-low : goal.layer_factor-requires-clause-low
 layer_factor-requires-clause-low c =
@@ -44,7 +44,7 @@ layer_factor-requires-clause-low c =
     let fv : FitsSigned w128 (get_or levels c.args.j (pos 0)) = omega (arith, ints, is.low, is.high) in
     let fn : FitsSigned w128 (level_behind levels c.args.j) = omega (arith, ints, is.high, is.next_low, is.step_low) in
     let fs : FitsSigned w128 (get_or levels c.args.j (pos 0) -ℤ level_behind levels c.args.j) = omega (arith, ints, is.low, is.high, is.next_low, is.step_low) in
-    rw c.behind.ensures (simp to_z-of_z (omega (arith, ints, is.step_low)))
+    rw c.next_level.ensures (simp to_z-of_z (omega (arith, ints, is.step_low)))
 
 pub layer_factor-requires-clause-high : goal.layer_factor-requires-clause-high
 layer_factor-requires-clause-high c =
@@ -53,7 +53,7 @@ layer_factor-requires-clause-high c =
     let fv : FitsSigned w128 (get_or levels c.args.j (pos 0)) = omega (arith, ints, is.low, is.high) in
     let fn : FitsSigned w128 (level_behind levels c.args.j) = omega (arith, ints, is.high, is.next_low, is.step_low) in
     let fs : FitsSigned w128 (get_or levels c.args.j (pos 0) -ℤ level_behind levels c.args.j) = omega (arith, ints, is.low, is.high, is.next_low, is.step_low) in
-    rw c.behind.ensures (simp to_z-of_z (omega (arith, ints, is.high, is.next_low)))
+    rw c.next_level.ensures (simp to_z-of_z (omega (arith, ints, is.high, is.next_low)))
 
 pub restricted-requires-clause-some : goal.restricted-requires-clause-some
 restricted-requires-clause-some c =

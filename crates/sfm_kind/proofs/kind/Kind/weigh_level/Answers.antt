@@ -29,7 +29,7 @@ overflow_sub-step c =
     let is = step-is c.args.weights.now levels c.args.j c.requires.weights c.requires.levels c.requires.within in
     let fv : FitsSigned w128 (get_or levels c.args.j (pos 0)) = omega (arith, ints, is.low, is.high) in
     let fn : FitsSigned w128 (level_behind levels c.args.j) = omega (arith, ints, is.high, is.next_low, is.step_low) in
-    rw c.behind.ensures (simp to_z-of_z (omega (arith, ints, is.low, is.high, is.next_low, is.step_low)))
+    rw c.next_level.ensures (simp to_z-of_z (omega (arith, ints, is.low, is.high, is.next_low, is.step_low)))
 
 pub overflow_mul-each : goal.overflow_mul-each
 overflow_mul-each c =
@@ -40,7 +40,7 @@ overflow_mul-each c =
     let fs : FitsSigned w128 (get_or levels c.args.j (pos 0) -ℤ level_behind levels c.args.j) = omega (arith, ints, is.low, is.high, is.next_low, is.step_low) in
     let fw : FitsSigned w128 c.factor.result = given_fits _ c.factor.ensures.given in
     let n = (numbers (goal.at.overflow_mul-each c).After-factor).2 in
-    rw c.behind.ensures (simp to_z-of_z (omega (arith, ints, n.each_low, n.each_high)))
+    rw c.next_level.ensures (simp to_z-of_z (omega (arith, ints, n.each_low, n.each_high)))
 
 pub overflow_mul-result : goal.overflow_mul-result
 overflow_mul-result c =
@@ -53,7 +53,7 @@ overflow_mul-result c =
     let n = (numbers (goal.at.overflow_mul-result c).After-factor).2 in
     let fe : FitsSigned w128 (c.factor.result *ℤ (get_or levels c.args.j (pos 0) -ℤ level_behind levels c.args.j)) = omega (arith, ints, n.each_low, n.each_high) in
     let fr : FitsSigned w128 c.in_ok-rank.rank = search rules in
-    rw c.behind.ensures (simp to_z-of_z (omega (arith, ints, n.low, n.high)))
+    rw c.next_level.ensures (simp to_z-of_z (omega (arith, ints, n.low, n.high)))
 
 pub returns : goal.returns
 returns c =
@@ -72,4 +72,4 @@ returns c =
     let fp : FitsSigned w128 ((c.factor.result *ℤ (v -ℤ next)) *ℤ r) = omega (arith, ints, n.low, n.high) in
     let made : IsLevelWeighed c.args.self.now c.args.weights.now v next c.size.result ((c.factor.result *ℤ (v -ℤ next)) *ℤ r) =
     record { places_are = c.size.ensures ∙ ap size keep; worth = (r, over, ap (λ w. (w *ℤ (v -ℤ next)) *ℤ r) c.factor.ensures.factor) } in
-    rw c.behind.ensures (simp to_z-of_z made)
+    rw c.next_level.ensures (simp to_z-of_z made)

@@ -9,8 +9,8 @@ use Rattle.sfm_law.proofs.Totals.{total_of-whole}
 use Rattle.sfm_simple.specs.CoverLaws.{cover_base, cover_base_back}
 use Rattle.sfm_simple.proofs.cover.CoverPlain.is_base_of.Goals as goal
 
-pub returns-then-are_counts : goal.returns-then-are_counts
-returns-then-are_counts c =
+pub returns-then-none_negative : goal.returns-then-none_negative
+returns-then-none_negative c =
     let r = c.requires in
     let s = c.args.self.now in
     let x = c.args.x.now in
@@ -18,19 +18,19 @@ returns-then-are_counts c =
     let fq : FitsSigned w128 c.args.q = c.ranges.q in
     let fw : FitsSigned w128 s.w = given_fits _ s.given in
     let fp : FitsSigned w128 (c.args.q *ℤ s.w) = product_fits _ _ r.factor (given_more _ s.given) in
-    let counts = c.if-are_counts.ensures.0 refl in
+    let counts = c.if-none_negative.ensures.0 refl in
     let p = simp to_z-of_z at c.product.ensures in
     let i = simp to_z-of_z at (rw p at c.has_sum.ensures) in (
       (λ t. cover_base c.args.q s.w x some (record { counts = λ e lt. All-get_or (λ a. pos 0 ≤ℤ a) x e (pos 0) lt counts; sum = sym (total_of-whole x) ∙ i.0 t })),
       (λ b. i.1 (total_of-whole x ∙ (cover_base_back c.args.q s.w x r.factor.low s.low some b).sum)),
     )
 
-pub returns-else-are_counts : goal.returns-else-are_counts
-returns-else-are_counts c =
+pub returns-else-none_negative : goal.returns-else-none_negative
+returns-else-none_negative c =
     let r = c.requires in
     let s = c.args.self.now in
     let x = c.args.x.now in
     let some : 0 < length x = omega (arith, r.entries, s.elements.some) in (
-      (λ t. absurd (both_ways c.are_counts.result c.if-are_counts.false t)),
-      (λ b. let h = cover_base_back c.args.q s.w x r.factor.low s.low some b in c.are_counts.ensures.1 (λ k d lt. rw (get_or_default x k d (pos 0) lt) (h.counts k lt))),
+      (λ t. absurd (both_ways c.none_negative.result c.if-none_negative.false t)),
+      (λ b. let h = cover_base_back c.args.q s.w x r.factor.low s.low some b in c.none_negative.ensures.1 (λ k d lt. rw (get_or_default x k d (pos 0) lt) (h.counts k lt))),
     )

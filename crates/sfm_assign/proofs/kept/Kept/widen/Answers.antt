@@ -1,8 +1,0 @@
-use Rattle.std.proofs.Common.{length}
-use Rattle.sfm_assign.proofs.Spreads.{answers_same}
-use Rattle.sfm_assign.proofs.kept.Kept.widen.Goals as goal
-
-pub invariant_of-self-clause-known : goal.invariant_of-self-clause-known
-invariant_of-self-clause-known c =
-    let k = c.args.self.now in
-    answers_same (length k.demand.demands) k.shares.cells.whos.items k.shares.cells.slots.items k.shares.y.items k.rooms.items k.beside.answers c.widen.new.self c.widen.ensures.same k.known
