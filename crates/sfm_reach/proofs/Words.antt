@@ -1,5 +1,5 @@
 -- Sets of places as words of 64 bits.
-use Rattle.std.proofs.Common.{◌≡◌, ◌≢◌, ◌⊎◌, ℕ, ◌+◌, ◌*◌, ◌<◌, ◌≤◌, ◌/◌, ◌%◌, ◌^◌, List, length, get_or, set, refl, sym, ap, ◌∙◌, arith, length-set, inl, inr, ⊎_elim, get_or-set_same, get_or-set_other}
+use Rattle.std.proofs.Common.{◌≡◌, ◌≢◌, ◌⊎◌, ℕ, zero, suc, ◌+◌, ◌*◌, ◌<◌, ◌≤◌, ◌/◌, ◌%◌, ◌^◌, List, [], ◌∷◌, length, get_or, set, refl, sym, ap, ◌∙◌, arith, length-set, inl, inr, ⊎_elim, get_or-set_same, get_or-set_other}
 use Rattle.std.proofs.lemmas.Bool.{cases_eq, cases_lt}
 use Rattle.std.proofs.lemmas.List.{get_or_past}
 use Rattle.std.proofs.lemmas.Nat.Bits.{bit_at_and, bit_at-lt, bit_at-zero, bit_at-trailing_zeros}
@@ -166,19 +166,21 @@ words_more words k s lt h = record {
 pub words_all : (words : List ℕ) (k : ℕ) (s : Bits) → length words ≤ k → HasWords words k s → (e : ℕ) → bit_in s e ≡ bit_of words e
 words_all words k s all h e = ⊎_elim (λ l. h.written e l) (λ ge. h.none e ge ∙ sym (past_words words e (omega (arith, all, ge)))) (cases_lt (e / 64) k)
 
--- the words below k are made of those before and of others, and those from k on are as before
-pub made_more : (F : ℕ → ℕ → ℕ) (before others words : List ℕ) (k : ℕ) → k < 4 → ((j : ℕ) → j < k → get_or words j 0 ≡ F (get_or before j 0) (get_or others j 0)) × ((j : ℕ) → k ≤ j → get_or words j 0 ≡ get_or before j 0) × (length words ≡ 4)
-    → ((j : ℕ) → j < k + 1 → get_or (set words k (F (get_or words k 0) (get_or others k 0))) j 0 ≡ F (get_or before j 0) (get_or others j 0)) × ((j : ℕ) → k + 1 ≤ j → get_or (set words k (F (get_or words k 0) (get_or others k 0))) j 0 ≡ get_or before j 0) × (length (set words k (F (get_or words k 0) (get_or others k 0))) ≡ 4)
-made_more F before others words k lt (made, rest, count) = (
-  (λ j l. ⊎_elim
-      (λ (same : j ≡ k). rw same (get_or-set_same words k w 0 there ∙ ap (λ z. F z (get_or others k 0)) (rest k (omega arith))))
-      (λ ne. get_or-set_other words k j w 0 ne ∙ made j (omega (arith, l, ne)))
-      (cases_eq j k)),
-  (λ j l. get_or-set_other words k j w 0 (λ same. omega (arith, same, l)) ∙ rest j (omega (arith, l))),
-  length-set words k w ∙ count,
-) where
-  there : k < length words
-  there = omega (arith, lt, count)
+-- four words, each made of the two of its number
+abbrev pub each_word : (ℕ → ℕ → ℕ) → List ℕ → List ℕ → List ℕ
+each_word F x y = F (get_or x 0 0) (get_or y 0 0) ∷ F (get_or x 1 0) (get_or y 1 0) ∷ F (get_or x 2 0) (get_or y 2 0) ∷ F (get_or x 3 0) (get_or y 3 0) ∷ []
 
-  w : ℕ
-  w = F (get_or words k 0) (get_or others k 0)
+each_word-at : (F : ℕ → ℕ → ℕ) (x y : List ℕ) (k : ℕ) → k < 4 → get_or (each_word F x y) k 0 ≡ F (get_or x k 0) (get_or y k 0)
+each_word-at F x y zero l = refl
+each_word-at F x y (suc zero) l = refl
+each_word-at F x y (suc (suc zero)) l = refl
+each_word-at F x y (suc (suc (suc zero))) l = refl
+each_word-at F x y (suc (suc (suc (suc k)))) l = absurd (omega (arith, l))
+
+-- where bits of the words that are made are made of theirs, so are the places of sets
+pub made_by_words : (F G : ℕ → ℕ → ℕ) (s o : Bits) (e : ℕ) → G 0 0 ≡ 0 → length s.words ≡ 4 → length o.words ≡ 4
+    → ((x y t : ℕ) → bit_at (F x y) t ≡ G (bit_at x t) (bit_at y t))
+    → bit_in (record { words = each_word F s.words o.words }) e ≡ G (bit_in s e) (bit_in o e)
+made_by_words F G s o e none ls lo bits = by_words G (record { words = each_word F s.words o.words }) s o e none ls lo
+    (λ l. ap (λ w. bit_at w (e % 64)) (each_word-at F s.words o.words (e / 64) l) ∙ bits _ _ (e % 64))
+    (λ past. get_or_past (each_word F s.words o.words) (e / 64) 0 past ∙ sym (get_or_past s.words (e / 64) 0 (omega (arith, ls, past))))

@@ -1,5 +1,6 @@
 // Sets of places below 256, as four words of 64 bits: the rows of what each place reaches, and the levels of a search. A
-// set is a plain value and takes no memory of its own, and two sets are joined or compared a word at a time.
+// set is a plain value and takes no memory of its own. Two sets are joined or compared by words, which are named one by one: so
+// a compiler keeps them in registers, where it would keep lists of them in memory.
 ghost use Rattle.std.specs.Prelude.{◌≡◌, ◌≢◌, ◌↔◌, ℕ, ◌-◌, ◌<◌, ◌≤◌, length, max, min, true, false, IsTrue, MatchOption, if◌then◌else◌};
 ghost use Rattle.sfm_base.specs.Words.{bit_of};
 ghost use Rattle.sfm_reach.specs.Bits.{bit_in};
@@ -84,48 +85,38 @@ impl Bits {
     pub fn union_with(&mut self, other: &Bits)
         ensures { (e : ℕ) → bit_in self.new e ≡ max (bit_in self.old e) (bit_in other.now e) }
     {
-        let mut words = self.words;
-        let others = other.words;
-        for k in 0..4 {
-            words[k] |= others[k];
-        }
-        self.words = words;
+        let [a, b, c, d] = self.words;
+        let [e, f, g, h] = other.words;
+        self.words = [a | e, b | f, c | g, d | h];
     }
 
     /// Takes each place out that the other set has not.
     pub fn meet_with(&mut self, other: &Bits)
         ensures { (e : ℕ) → bit_in self.new e ≡ min (bit_in self.old e) (bit_in other.now e) }
     {
-        let mut words = self.words;
-        let others = other.words;
-        for k in 0..4 {
-            words[k] &= others[k];
-        }
-        self.words = words;
+        let [a, b, c, d] = self.words;
+        let [e, f, g, h] = other.words;
+        self.words = [a & e, b & f, c & g, d & h];
     }
 
     /// Takes each place of the other set out.
     pub fn remove_all(&mut self, other: &Bits)
         ensures { (e : ℕ) → bit_in self.new e ≡ bit_in self.old e - bit_in other.now e }
     {
-        let mut words = self.words;
-        let others = other.words;
-        for k in 0..4 {
-            words[k] ^= words[k] & others[k];
-        }
-        self.words = words;
+        let [a, b, c, d] = self.words;
+        let [e, f, g, h] = other.words;
+        self.words = [a ^ (a & e), b ^ (b & f), c ^ (c & g), d ^ (d & h)];
     }
 
     /// The places that one of the two sets has and the other has not.
     pub fn differing(&self, other: &Bits) -> Bits
         ensures { (e : ℕ) → (bit_in result e ≡ 0) ↔ (bit_in self.now e ≡ bit_in other.now e) }
     {
-        let mut words = self.words;
-        let others = other.words;
-        for k in 0..4 {
-            words[k] ^= others[k];
+        let [a, b, c, d] = self.words;
+        let [e, f, g, h] = other.words;
+        Bits {
+            words: [a ^ e, b ^ f, c ^ g, d ^ h],
         }
-        Bits { words }
     }
 
     /// The least place of the set.
@@ -142,10 +133,8 @@ impl Bits {
             (λ e. (e < 256) × (bit_in self.now e ≡ 1) × (bit_in other.now e ≡ 1)
             × ((k : ℕ) → k < e → bit_in self.now k ≡ 1 → bit_in other.now k ≢ 1)) }
     {
-        let words = self.words;
-        let others = other.words;
         for k in 0..4 {
-            let common = words[k] & others[k];
+            let common = self.words[k] & other.words[k];
             if common != 0 {
                 return Some(64 * k + common.trailing_zeros() as usize);
             }
@@ -165,14 +154,9 @@ impl Bits {
     pub fn is_within(&self, other: &Bits) -> bool
         ensures { IsTrue result ↔ ((e : ℕ) → bit_in self.now e ≡ 1 → bit_in other.now e ≡ 1) }
     {
-        let words = self.words;
-        let others = other.words;
-        for k in 0..4 {
-            if words[k] & others[k] != words[k] {
-                return false;
-            }
-        }
-        true
+        let mut left = *self;
+        left.remove_all(other);
+        left.is_empty()
     }
 
     /// Whether the sets have a place in common.

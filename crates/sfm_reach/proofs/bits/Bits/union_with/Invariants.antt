@@ -1,9 +1,0 @@
--- the words so far are joined, and the others stay
-use Rattle.std.proofs.Common.{◌≡◌, ℕ, ◌<◌, ◌≤◌, length, get_or}
-use Rattle.std.specs.Int.Bits.{bit_or}
-use Rattle.sfm_reach.proofs.bits.Bits.union_with.Given as goal
-
-abbrev pub invariant-loop-k : goal.invariant-loop-k
-invariant-loop-k l = ((j : ℕ) → j < l.k → get_or l.words j 0 ≡ bit_or (get_or l.initial.words j 0) (get_or l.others j 0))
-    × ((j : ℕ) → l.k ≤ j → get_or l.words j 0 ≡ get_or l.initial.words j 0)
-    × (length l.words ≡ 4)
