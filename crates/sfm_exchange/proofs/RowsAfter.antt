@@ -7,10 +7,23 @@ use Rattle.sfm_spec.specs.Terms.{SetFunction, IsFamily, IsSubmodular, IsBase, Ha
 use Rattle.sfm_spec.proofs.Sums.{length-exchanged}
 use Rattle.sfm_spec.proofs.RowLaw.{depends_on, row_laws}
 use Rattle.sfm_reach.specs.declared.bits.Bits.{Bits}
-use Rattle.sfm_reach.specs.Bits.{bit_in}
+use Rattle.sfm_reach.specs.Bits.{IsUnionBut, bit_in}
 use Rattle.sfm_reach.specs.Reach.{IsRow}
 use Rattle.sfm_exchange.specs.Renewed.{IsExchanged, IsJoined}
 use Rattle.sfm_reach.proofs.Words.{bit_in-lt}
+
+-- the same where the place to was put in first
+pub joined_by : (row more all joined : Bits) (to out : ℕ) → bit_in all to ≡ 1 → ((e : ℕ) → e ≢ to → bit_in all e ≡ bit_in more e)
+    → IsUnionBut row all out joined → IsJoined row more to out joined
+joined_by row more all joined to out put kept is e = ((λ one. let (ne, o) = (is e).0 one in (ne, told o)), (λ (ne, o). (is e).1 (ne, back o))) where
+  told : (bit_in row e ≡ 1) ⊎ (bit_in all e ≡ 1) → (bit_in row e ≡ 1) ⊎ (bit_in more e ≡ 1) ⊎ (e ≡ to)
+  told (inl old) = inl old
+  told (inr new) = ⊎_elim (λ same. inr (inr same)) (λ ne. inr (inl (sym (kept e ne) ∙ new))) (cases_eq e to)
+
+  back : (bit_in row e ≡ 1) ⊎ (bit_in more e ≡ 1) ⊎ (e ≡ to) → (bit_in row e ≡ 1) ⊎ (bit_in all e ≡ 1)
+  back (inl old) = inl old
+  back (inr (inl new)) = inr (⊎_elim (λ same. rw same put) (λ ne. kept e ne ∙ new) (cases_eq e to))
+  back (inr (inr same)) = inr (rw same put)
 
 -- the places of two rows, with one put in and one taken out
 pub joined_is : (row more a b c : Bits) (to out : ℕ) → ((e : ℕ) → bit_in a e ≡ max (bit_in row e) (bit_in more e)) → bit_in b to ≡ 1 → ((e : ℕ) → e ≢ to → bit_in b e ≡ bit_in a e)

@@ -79,10 +79,11 @@ fn join_rows(places: &[usize], changed: &Bits, more: &Bits, to: usize, rows: &mu
     requires to { to < 256 }
     ensures { AreJoined places.now changed.now more.now to (length places.now) rows.old rows.new }
 {
+    let mut all = *more;
+    all.insert(to);
     for (u, place) in places.iter().enumerate() {
         if changed.contains(*place) {
-            let row = joined(&rows.as_slice()[u], more, to, *place);
-            rows.set(u, row);
+            rows.join(u, &all, *place);
         }
     }
 }
@@ -162,10 +163,12 @@ fn share_row(places: &[usize], shared: &Bits, raised: &Raised, rows: &mut BitRow
     requires place { raised.now.place < 256 }
     ensures { AreShared places.now shared.now raised.now (length places.now) rows.old rows.new }
 {
+    let mut all = raised.row;
+    all.insert(raised.place);
     for (u, place) in places.iter().enumerate() {
         if shared.contains(*place) {
-            let row = joined(&raised.row, &raised.row, raised.place, *place);
-            rows.set(u, row);
+            rows.set(u, raised.row);
+            rows.join(u, &all, *place);
         }
     }
 }

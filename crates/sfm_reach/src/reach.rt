@@ -2,7 +2,7 @@
 // Only the terms whose base has changed are asked again.
 ghost use Rattle.std.specs.Prelude.{◌≡◌, ℕ, ◌<◌, List, length, map, IfOk, OnOk, slice_set};
 ghost use Rattle.sfm_spec.specs.{Sets.{IsPlaced}, Rows.{Depends}, Terms.{times}};
-ghost use Rattle.sfm_reach.specs.{Based.{IsPlacedBase}, Bits.{HasPlaces, bit_in, set_at}, Image.{IsImage}, Reach.{IsReachTable, IsRow, AreRowsOf, AreSized}};
+ghost use Rattle.sfm_reach.specs.{Based.{IsPlacedBase}, declared.bits.Bits.{Bits}, Bits.{HasPlaces, IsUnionBut, bit_in, set_at}, Image.{IsImage}, Reach.{IsReachTable, IsRow, AreRowsOf, AreSized}};
 
 use crate::bits::{Bits, no_bits, of_words};
 use crate::image::{Image, are_in_order, write_changed};
@@ -91,6 +91,18 @@ impl BitRows {
         ensures { self.new ≡ slice_set self.old u row }
     {
         self.rows[u] = row;
+    }
+
+    /// Puts the places of a set into the row of the place u, where it stands, and takes one place out of it.
+    pub fn join(&mut self, u: usize, more: &Bits, out: usize)
+        requires place { u < length self.old }
+        requires out { out < 256 }
+        ensures { (row : Bits) × (self.new ≡ slice_set self.old u row)
+            × IsUnionBut (set_at self.old u) more.now out row }
+    {
+        let row = &mut self.rows[u];
+        row.union_with(more);
+        row.remove(out);
     }
 
     /// The row of the place u.

@@ -3,6 +3,7 @@ use Rattle.std.proofs.lemmas.Bool.{both_ways, cases_eq}
 use Rattle.sfm_reach.specs.declared.bits.Bits.{Bits}
 use Rattle.sfm_reach.specs.Bits.{bit_in, blank_bits, set_at}
 use Rattle.sfm_exchange.specs.Renewed.{AreJoined, IsJoined}
+use Rattle.sfm_exchange.proofs.RowsAfter.{joined_by}
 use Rattle.sfm_exchange.proofs.renewing.join_rows.Goals as goal
 use Rattle.sfm_exchange.proofs.renewing.join_rows.Goals.{then-contains, else-contains}
 
@@ -28,8 +29,8 @@ joined_past places changed more to k before mid h none = record {
   ahead = λ u le. h.ahead u (omega (arith, le));
 }
 
-pub set-requires : goal.set-requires
-set-requires c = omega (arith, c.loop-u.invariant.count, c.requires.rows, c.loop-u-test.true)
+pub join-requires-clause-place : goal.join-requires-clause-place
+join-requires-clause-place c = omega (arith, c.loop-u.invariant.count, c.requires.rows, c.loop-u-test.true)
 
 pub loop-u-preserved : goal.loop-u-preserved
 loop-u-preserved c =
@@ -37,6 +38,9 @@ loop-u-preserved c =
     let k = c.loop-u.u in
     let h = c.loop-u.invariant in
     elim c.if-contains.branch [
-      | then-contains w ↦ rw (w.rows-is, w.set.ensures) (joined_more places c.args.changed.now c.args.more.now c.args.to k c.args.rows.now c.loop-u.rows w.joined-row.result h (omega (arith, h.count, c.requires.rows, c.loop-u-test.true)) (w.if-contains.ensures.0 refl) (rw w.as_slice.ensures at w.joined-row.ensures))
+      | then-contains w ↦
+          let (row, put, is) = w.join.ensures in
+          let more = joined_by (set_at c.loop-u.rows k) c.args.more.now c.insert.new.self row c.args.to (get_or places k 0) c.insert.ensures.put c.insert.ensures.others is in
+          rw (w.rows-is, put) (joined_more places c.args.changed.now c.args.more.now c.args.to k c.args.rows.now c.loop-u.rows row h (omega (arith, h.count, c.requires.rows, c.loop-u-test.true)) (w.if-contains.ensures.0 refl) more)
       | else-contains w ↦ rw w.rows-is (joined_past places c.args.changed.now c.args.more.now c.args.to k c.args.rows.now c.loop-u.rows h (λ one. both_ways false refl (w.if-contains.ensures.1 one)))
     ]

@@ -1,9 +1,10 @@
-use Rattle.std.proofs.Common.{◌≡◌, ◌≢◌, ⊎_elim, ℕ, ◌+◌, ◌<◌, List, false, length, get_or, set, refl, sym, subst, ◌∙◌, arith, get_or-set_same, get_or-set_other, length-set}
+use Rattle.std.proofs.Common.{◌≡◌, ◌≢◌, ⊎_elim, ℕ, ◌+◌, ◌<◌, List, false, length, get_or, set, refl, sym, subst, ◌∙◌, arith, get_or-set_same, get_or-set_other, length-set, set-set}
 use Rattle.std.proofs.lemmas.Bool.{both_ways, cases_eq}
 use Rattle.sfm_reach.specs.declared.bits.Bits.{Bits}
 use Rattle.sfm_reach.specs.Bits.{bit_in, blank_bits, set_at}
 use Rattle.sfm_exchange.specs.declared.renewing.Raised.{Raised}
 use Rattle.sfm_exchange.specs.Renewed.{AreShared, IsJoined}
+use Rattle.sfm_exchange.proofs.RowsAfter.{joined_by}
 use Rattle.sfm_exchange.proofs.renewing.share_row.Goals as goal
 use Rattle.sfm_exchange.proofs.renewing.share_row.Goals.{then-contains, else-contains}
 
@@ -30,12 +31,21 @@ shared_past places shared raised k before mid h none = record {
 pub set-requires : goal.set-requires
 set-requires c = omega (arith, c.loop-u.invariant.count, c.requires.rows, c.loop-u-test.true)
 
+pub join-requires-clause-place : goal.join-requires-clause-place
+join-requires-clause-place c = rw c.set.ensures (omega (arith, length-set c.loop-u.rows c.loop-u.u c.args.raised.now.row, c.loop-u.invariant.count, c.requires.rows, c.loop-u-test.true))
+
 pub loop-u-preserved : goal.loop-u-preserved
 loop-u-preserved c =
     let places = c.args.places.now in
     let k = c.loop-u.u in
     let h = c.loop-u.invariant in
     elim c.if-contains.branch [
-      | then-contains w ↦ rw (w.rows-is, w.set.ensures) (shared_more places c.args.shared.now c.args.raised.now k c.args.rows.now c.loop-u.rows w.joined-row.result h (omega (arith, h.count, c.requires.rows, c.loop-u-test.true)) (w.if-contains.ensures.0 refl) w.joined-row.ensures)
+      | then-contains w ↦
+          let raised = c.args.raised.now in
+          let l : k < length c.loop-u.rows = omega (arith, h.count, c.requires.rows, c.loop-u-test.true) in
+          let (row, put, is) = rw w.set.ensures at w.join.ensures in
+          let own = rw (get_or-set_same c.loop-u.rows k raised.row blank_bits l) at is in
+          rw (w.rows-is, put ∙ set-set c.loop-u.rows k raised.row row) (shared_more places c.args.shared.now raised k c.args.rows.now c.loop-u.rows row h l (w.if-contains.ensures.0 refl)
+          (joined_by raised.row raised.row c.insert.new.self row raised.place (get_or places k 0) c.insert.ensures.put c.insert.ensures.others own))
       | else-contains w ↦ rw w.rows-is (shared_past places c.args.shared.now c.args.raised.now k c.args.rows.now c.loop-u.rows h (λ one. both_ways false refl (w.if-contains.ensures.1 one)))
     ]
