@@ -184,3 +184,10 @@ pub made_by_words : (F G : ℕ → ℕ → ℕ) (s o : Bits) (e : ℕ) → G 0 0
 made_by_words F G s o e none ls lo bits = by_words G (record { words = each_word F s.words o.words }) s o e none ls lo
     (λ l. ap (λ w. bit_at w (e % 64)) (each_word-at F s.words o.words (e / 64) l) ∙ bits _ _ (e % 64))
     (λ past. get_or_past (each_word F s.words o.words) (e / 64) 0 past ∙ sym (get_or_past s.words (e / 64) 0 (omega (arith, ls, past))))
+
+-- and the set of four words, taken one by one
+pub four_words : (words : List ℕ) (e : ℕ) → length words ≡ 4 → bit_in (record { words = each_word (λ a b. a) words words }) e ≡ bit_of words e
+four_words words e is = let own : Bits = record { words = each_word (λ a b. a) words words } in ⊎_elim
+    (λ l. bit_in-words own e ∙ ap (λ w. bit_at w (e % 64)) (each_word-at (λ a b. a) words words (e / 64) l))
+    (λ past. within_words own e past ∙ sym (past_words words e (omega (arith, is, past))))
+    (cases_lt (e / 64) 4)

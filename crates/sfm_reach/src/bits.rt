@@ -23,6 +23,11 @@ pub fn of_words(words: &[u64]) -> Bits
     requires { length words.now ≤ 4 }
     ensures { (e : ℕ) → bit_in result e ≡ bit_of words.now e }
 {
+    if let [a, b, c, d] = words {
+        return Bits {
+            words: [*a, *b, *c, *d],
+        };
+    }
     let mut bits = no_bits();
     for (k, word) in words.iter().enumerate() {
         bits.words[k] = *word;

@@ -1,5 +1,5 @@
 use Rattle.std.proofs.Common.{arith}
-use Rattle.sfm_reach.proofs.Words.{words_all, words_more}
+use Rattle.sfm_reach.proofs.Words.{four_words, words_all, words_more}
 use Rattle.sfm_reach.proofs.bits.of_words.Goals as goal
 
 pub loop-k-init : goal.loop-k-init
@@ -10,3 +10,6 @@ loop-k-preserved c = words_more c.args.words.now c.loop-k.k c.loop-k.bits (omega
 
 pub returns : goal.returns
 returns c = words_all c.args.words.now c.loop-k.k c.loop-k.bits c.loop-k-test.false c.loop-k.invariant
+
+pub returns-in-len4 : goal.returns-in-len4
+returns-in-len4 c = λ e. four_words c.args.words.now e (omega (arith, c.in-len4))
