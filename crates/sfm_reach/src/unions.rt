@@ -98,6 +98,9 @@ pub fn widen(
         (length places.now) unions.old.items unions.new.items }
     ensures turned { AreTurned unions.new.items back.new.items }
 {
+    if grown.is_empty() {
+        return;
+    }
     for (u, place) in places.iter().enumerate() {
         if grown.contains(*place) {
             put_in(&rows.as_slice()[u], *place, unions, back);
