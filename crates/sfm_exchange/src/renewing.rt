@@ -163,6 +163,9 @@ fn share_row(places: &[usize], shared: &Bits, raised: &Raised, rows: &mut BitRow
     requires place { raised.now.place < 256 }
     ensures { AreShared places.now shared.now raised.now (length places.now) rows.old rows.new }
 {
+    if shared.is_empty() {
+        return;
+    }
     let mut all = raised.row;
     all.insert(raised.place);
     for (u, place) in places.iter().enumerate() {

@@ -49,3 +49,10 @@ loop-u-preserved c =
           (joined_by raised.row raised.row c.insert.new.self row raised.place (get_or places k 0) c.insert.ensures.put c.insert.ensures.others own))
       | else-contains w ↦ rw w.rows-is (shared_past places c.args.shared.now c.args.raised.now k c.args.rows.now c.loop-u.rows h (λ one. both_ways false refl (w.if-contains.ensures.1 one)))
     ]
+
+pub returns-then-is_empty : goal.returns-then-is_empty
+returns-then-is_empty c = record {
+  count = refl;
+  shared_is = λ u lu here. absurd (c.is_empty.ensures.empty c.if-is_empty.true (get_or c.args.places.now u 0) here);
+  others = λ u lu none. refl;
+}
