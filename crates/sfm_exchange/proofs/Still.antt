@@ -15,6 +15,10 @@ module _ {X N : Type 0} {T : Ghosts X N} {terms : List X} {q : ℤ} where
   pub still_begun : {n : ℕ} {graph : Graph N} → IsClaimed T terms n q graph → IsStill T terms q graph graph
   still_begun h = record { claimed = own h; bases = refl }
 
+  -- it is ready for a call over it where its bases are small
+  pub ready : {n : ℕ} {graph : Graph N} → IsClaimed T terms n q graph → All (λ x. All IsEntry x) graph.bases → IsReady T terms q graph
+  ready h small = record { claimed = own h; small = small }
+
   -- a graph over as many places as one has spots for is one over as many as that, also where the factor is told as a word
   pub over_word : {n : ℕ} {graph graph' : Graph N} → IsClaimed T terms n q graph → IsClaimed T terms (length graph.spots.items) (to_z w128 (of_z w128 q)) graph' → IsClaimed T terms n q graph'
   over_word h h' = let fq : FitsSigned w128 q = omega (arith, ints, h.factor) in over h (simp to_z-of_z at h')

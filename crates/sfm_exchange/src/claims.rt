@@ -2,10 +2,10 @@
 // that it finds is moved along only once each of its steps is known to be a true one. A row that is asked for that is true from
 // then on, so where a step is refused, fewer rows are claimed, and the search begins anew. And where all that walks lead to
 // is sought, the rows of each place that is found are asked before the search goes on from there.
-ghost use Rattle.std.specs.{Prelude.{◌≡◌, ◌≢◌, ◌<◌, ℕ, length, true, false, OnOk, IfOk, slice_index_or}, List.{All}};
-ghost use Rattle.sfm_spec.specs.{Bounds.{IsEntry}, Families.{meanings}, Walks.{term_at}};
+ghost use Rattle.std.specs.{Prelude.{◌≡◌, ◌≢◌, ◌<◌, ℕ, length, true, false, OnOk, IfOk, slice_index_or}};
+ghost use Rattle.sfm_spec.specs.{Families.{meanings}, Walks.{term_at}};
 ghost use Rattle.sfm_reach.specs.{Bits.{bit_in, set_at}, Reached.{AreWalked}, Unions.{IsArc}};
-ghost use Rattle.sfm_exchange.specs.{Claimed.{IsAsked, IsSettled, claims_of}, Graph.{IsClaimed, IsReady, IsStill, IsWhole}, Hops.{AreHops, IsMovable, hop_at}};
+ghost use Rattle.sfm_exchange.specs.{Claimed.{IsAsked, IsSettled, claims_of}, Graph.{IsReady, IsStill, IsWhole}, Hops.{AreHops, IsMovable, hop_at}};
 
 use crate::graph::Graph;
 use crate::path::Hop;
@@ -75,13 +75,10 @@ pub fn prove_walk<T: Term>(
     q: i128,
     hops: &[Hop],
 ) -> Result<bool, Memory>
-    requires graph { IsClaimed T.Term terms.now (length graph.old.spots.items) q graph.old }
-    requires small { All (λ x. All IsEntry x) graph.old.bases }
+    requires ready { IsReady T.Term terms.now q graph.old }
     requires told { (first : ℕ) × AreHops (meanings T.places T.value_of terms.now)
         graph.old.rows.items first hops.now }
-    ensures graph { OnOk result (IsClaimed T.Term terms.now (length graph.old.spots.items) q
-        graph.new) }
-    ensures bases { OnOk result (graph.new.bases ≡ graph.old.bases) }
+    ensures still { OnOk result (IsStill T.Term terms.now q graph.old graph.new) }
     ensures proved { IfOk result (λ r. r ≡ true → (k : ℕ) → k < length hops.now
         → IsMovable (meanings T.places T.value_of terms.now) q graph.old.bases
         (hop_at hops.now k)) }
@@ -180,12 +177,9 @@ pub fn walked_from<T: Term>(
     q: i128,
     firsts: &Bits,
 ) -> Result<Bits, Memory>
-    requires graph { IsClaimed T.Term terms.now (length graph.old.spots.items) q graph.old }
-    requires small { All (λ x. All IsEntry x) graph.old.bases }
+    requires ready { IsReady T.Term terms.now q graph.old }
     requires firsts { (e : ℕ) → bit_in firsts.now e ≡ 1 → e < length graph.old.spots.items }
-    ensures graph { OnOk result (IsClaimed T.Term terms.now (length graph.old.spots.items) q
-        graph.new) }
-    ensures bases { OnOk result (graph.new.bases ≡ graph.old.bases) }
+    ensures still { OnOk result (IsStill T.Term terms.now q graph.old graph.new) }
     ensures walked { IfOk result (AreWalked (meanings T.places T.value_of terms.now)
         (length graph.old.spots.items) q graph.old.bases firsts.now) }
 {
@@ -213,8 +207,7 @@ pub fn ask_claimed<T: Term>(
     terms: &[T],
     q: i128,
 ) -> Result<(), Memory>
-    requires graph { IsClaimed T.Term terms.now (length graph.old.spots.items) q graph.old }
-    requires small { All (λ x. All IsEntry x) graph.old.bases }
+    requires ready { IsReady T.Term terms.now q graph.old }
     ensures graph { OnOk result (IsWhole T.Term terms.now (length graph.old.spots.items) q
         graph.new) }
     ensures bases { OnOk result (graph.new.bases ≡ graph.old.bases) }

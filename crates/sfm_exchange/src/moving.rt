@@ -3,7 +3,7 @@
 // so it fits the bases at every step; rows may be claimed all along.
 ghost use Rattle.std.specs.{Prelude.{◌≡◌, ◌*◌, ◌^◌, ◌<◌, ◌≤◌, ℕ, ℤ, pos, ◌≤ℤ◌, length, slice_set, OnOk, IfOk}, List.{All}};
 ghost use Rattle.sfm_spec.specs.{Bounds.{IsAtMost, IsEntry}, Terms.{exchanged}, Families.{meanings}, Labels.{FallsAlong}, Walks.{IsWalkMove, base_at}};
-ghost use Rattle.sfm_exchange.specs.{Graph.{IsClaimed}, Hops.{CanExchange, IsMovable, Moves, AreNamed, AreInOrder, hop_at, steps_of}};
+ghost use Rattle.sfm_exchange.specs.{Graph.{IsClaimed, IsReady, IsStill}, Hops.{CanExchange, IsMovable, Moves, AreNamed, AreInOrder, hop_at, steps_of}};
 
 use crate::graph::Graph;
 use crate::noted::{move_kept, renew_kept, room_kept};
@@ -23,14 +23,11 @@ pub fn amount_of<T: Term>(
     hops: &[Hop],
     most: i128,
 ) -> Result<i128, Memory>
-    requires graph { IsClaimed T.Term terms.now (length graph.old.spots.items) q graph.old }
-    requires small { All (λ x. All IsEntry x) graph.old.bases }
+    requires ready { IsReady T.Term terms.now q graph.old }
     requires movable { (k : ℕ) → k < length hops.now → IsMovable
         (meanings T.places T.value_of terms.now) q graph.old.bases (hop_at hops.now k) }
     requires most { pos 1 ≤ℤ most }
-    ensures graph { OnOk result (IsClaimed T.Term terms.now (length graph.old.spots.items) q
-        graph.new) }
-    ensures bases { OnOk result (graph.new.bases ≡ graph.old.bases) }
+    ensures still { OnOk result (IsStill T.Term terms.now q graph.old graph.new) }
     ensures some { IfOk result (λ a. pos 1 ≤ℤ a) }
     ensures within { IfOk result (λ a. a ≤ℤ most) }
     ensures moves { IfOk result (λ a. (k : ℕ) → k < length hops.now

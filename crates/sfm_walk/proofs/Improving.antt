@@ -4,7 +4,7 @@ use Rattle.std.specs.List.{All}
 use Rattle.std.proofs.lemmas.Int.{ints}
 use Rattle.sfm_law.specs.declared.term.Term.{Ghosts}
 use Rattle.sfm_spec.specs.Bounds.{IsAtMost}
-use Rattle.sfm_spec.specs.Terms.{SetFunction, IsFamily, IsSubmodular}
+use Rattle.sfm_spec.specs.Terms.{IsFamily, IsSubmodular}
 use Rattle.sfm_spec.specs.Families.{meanings, rest_at, deficit, AreTerms}
 use Rattle.sfm_spec.proofs.Gain.{moves_along}
 use Rattle.sfm_spec.proofs.Moves.{deficit_not_above}

@@ -16,10 +16,10 @@ bit_back before after t fall one = ⊎_elim (λ is. is) (λ ne. absurd (fall ne 
 pub loop-e-init : goal.loop-e-init
 loop-e-init g c =
     let fq : FitsSigned w128 c.args.q = c.ranges.q in
-    simp to_z-of_z (still_begun c.requires.graph, refl, (λ d l. absurd (omega (arith, l))), (λ j t one. c.claimed_places-claimed.ensures j t (rw c.deref.ensures.value one)))
+    simp to_z-of_z (still_begun c.requires.ready.claimed, refl, (λ d l. absurd (omega (arith, l))), (λ j t one. c.claimed_places-claimed.ensures j t (rw c.deref.ensures.value one)))
 
 pub settle_place-requires-clause-ready : goal.settle_place-requires-clause-ready
-settle_place-requires-clause-ready g c = still_ready c.loop-e.invariant.0 c.requires.small
+settle_place-requires-clause-ready g c = still_ready c.loop-e.invariant.0 c.requires.ready.small
 
 pub settle_place-requires-clause-place : goal.settle_place-requires-clause-place
 settle_place-requires-clause-place g c =
@@ -50,7 +50,7 @@ returns-clause-graph g c =
     let fq : FitsSigned w128 c.args.q = c.ranges.q in
     let inv = simp to_z-of_z at c.loop-e.invariant in
     let end = c.len-e-end.ensures in
-    whole_settled inv.0.claimed c.args.graph.now.spots.items c.requires.graph.are_spots (λ d l. inv.2 d (omega (arith, l, end, c.loop-e-test.false)))
+    whole_settled inv.0.claimed c.args.graph.now.spots.items c.requires.ready.claimed.are_spots (λ d l. inv.2 d (omega (arith, l, end, c.loop-e-test.false)))
 
 pub returns-clause-bases : goal.returns-clause-bases
 returns-clause-bases g c = c.loop-e.invariant.0.bases

@@ -63,10 +63,10 @@ loop-e-init g c =
     let t = g.T.Term in
     let fq : FitsSigned w128 c.args.q = c.ranges.q in
     let graph = c.args.graph.now in
-    simp to_z-of_z (still_begun c.requires.graph, search_begun (length graph.spots.items) (IsArc (meanings t.places t.value_of c.args.terms.now) c.args.q graph.bases) c.args.firsts.now c.requires.firsts, (λ j t one. c.claimed_places-claimed.ensures j t (rw c.deref.ensures.value one)))
+    simp to_z-of_z (still_begun c.requires.ready.claimed, search_begun (length graph.spots.items) (IsArc (meanings t.places t.value_of c.args.terms.now) c.args.q graph.bases) c.args.firsts.now c.requires.firsts, (λ j t one. c.claimed_places-claimed.ensures j t (rw c.deref.ensures.value one)))
 
 pub settle_place-requires-clause-ready : goal.settle_place-requires-clause-ready
-settle_place-requires-clause-ready g c = still_ready c.loop-e.invariant.0 c.requires.small
+settle_place-requires-clause-ready g c = still_ready c.loop-e.invariant.0 c.requires.ready.small
 
 pub settle_place-requires-clause-place : goal.settle_place-requires-clause-place
 settle_place-requires-clause-place g c =
@@ -92,8 +92,8 @@ loop-e-preserved g c =
 pub loop-e-smaller : goal.loop-e-smaller
 loop-e-smaller g c = search_shrinks (look g (goal.at.loop-e-smaller g c).After-take_in) c.in-Some.ensures.0
 
-pub returns-clause-graph : goal.returns-clause-graph
-returns-clause-graph g c = let fq : FitsSigned w128 c.args.q = c.ranges.q in simp to_z-of_z at c.loop-e.invariant.0.claimed
+pub returns-clause-still : goal.returns-clause-still
+returns-clause-still g c = let fq : FitsSigned w128 c.args.q = c.ranges.q in simp to_z-of_z at c.loop-e.invariant.0
 
 pub returns-clause-walked : goal.returns-clause-walked
 returns-clause-walked g c =
@@ -102,9 +102,6 @@ returns-clause-walked g c =
     let inv = simp to_z-of_z at c.loop-e.invariant in
     walks_done (meanings t.places t.value_of c.args.terms.now) (length c.args.graph.now.spots.items) c.args.q c.args.graph.now.bases c.args.firsts.now c.loop-e.found c.loop-e.ahead inv.1
     (match_none c.first.result _ _ c.first.ensures c.in_default.not-Some)
-
-pub returns-clause-bases : goal.returns-clause-bases
-returns-clause-bases g c = c.loop-e.invariant.0.bases
 
 pub settle_place-requires-clause-claimed : goal.settle_place-requires-clause-claimed
 settle_place-requires-clause-claimed g c = c.loop-e.invariant.2

@@ -24,7 +24,7 @@ loop-hop-init g c =
     let t = g.T.Term in
     let fq : FitsSigned w128 c.args.q = c.ranges.q in
     let fm : FitsSigned w128 c.args.most = c.ranges.most in
-    simp to_z-of_z (amount_none (meanings t.places t.value_of c.args.terms.now) c.args.q c.args.graph.now.bases c.args.hops.now c.args.most c.requires.most, still_begun c.requires.graph)
+    simp to_z-of_z (amount_none (meanings t.places t.value_of c.args.terms.now) c.args.q c.args.graph.now.bases c.args.hops.now c.args.most c.requires.most, still_begun c.requires.ready.claimed)
 
 pub index_mut-note-requires : goal.index_mut-note-requires
 index_mut-note-requires g c =
@@ -33,19 +33,19 @@ index_mut-note-requires g c =
     omega (arith, l, h.note_count, c.loop-hop.graph.notes.ok.0)
 
 pub bounds-terms-i : goal.bounds-terms-i
-bounds-terms-i g c = rw (counted c.requires.graph) at (c.requires.movable c.loop-hop.hop-index c.loop-hop-test.true).term_in
+bounds-terms-i g c = rw (counted c.requires.ready.claimed) at (c.requires.movable c.loop-hop.hop-index c.loop-hop-test.true).term_in
 
 pub offset_bounds-terms-i : goal.offset_bounds-terms-i
 offset_bounds-terms-i g c =
-    let l = rw (counted c.requires.graph) at (c.requires.movable c.loop-hop.hop-index c.loop-hop-test.true).term_in in
+    let l = rw (counted c.requires.ready.claimed) at (c.requires.movable c.loop-hop.hop-index c.loop-hop-test.true).term_in in
     omega (arith, l)
 
 pub row-x-requires : goal.row-x-requires
-row-x-requires g c = rw (base_count c.loop-hop.invariant.1.claimed) (rw (counted c.requires.graph) at (c.requires.movable c.loop-hop.hop-index c.loop-hop-test.true).term_in)
+row-x-requires g c = rw (base_count c.loop-hop.invariant.1.claimed) (rw (counted c.requires.ready.claimed) at (c.requires.movable c.loop-hop.hop-index c.loop-hop-test.true).term_in)
 
 -- the step is one of a term
 term_in : (g : given.Over) (c : After-at-1 g) → (hop_at c.args.hops.now c.loop-hop.hop-index).term < length c.args.terms.now
-term_in g c = rw (counted c.requires.graph) at (c.requires.movable c.loop-hop.hop-index c.loop-hop-test.true).term_in
+term_in g c = rw (counted c.requires.ready.claimed) at (c.requires.movable c.loop-hop.hop-index c.loop-hop-test.true).term_in
 
 -- whose base is within the bounds
 here : (g : given.Over) (c : After-at-1 g) → let t = g.T.Term in IsBased t.places t.value_of t.size_of c.index-terms-i.result c.args.q c.row-x.result.now
@@ -61,7 +61,7 @@ here g c =
     let bases = c.loop-hop.graph.bases in
     let sound = size_low t.places t.value_of t.size_of m.submodular m.bounded in
     let B : List ℤ → Type 0 = λ x. IsBased t.places t.value_of t.size_of term c.args.q x in
-    subst B (sym c.row-x.ensures) (based h i l term c.index-terms-i.is sound (All-get_or (λ x. All IsEntry x) bases i [] (rw (base_count h) l) (rw still.bases c.requires.small))).based
+    subst B (sym c.row-x.ensures) (based h i l term c.index-terms-i.is sound (All-get_or (λ x. All IsEntry x) bases i [] (rw (base_count h) l) (rw still.bases c.requires.ready.small))).based
 
 -- with an entry for each of its places
 long : (g : given.Over) (c : After-at-1 g) → length c.row-x.result.now ≡ length (term_at (meanings g.T.Term.places g.T.Term.value_of c.args.terms.now) (hop_at c.args.hops.now c.loop-hop.hop-index).term).places
@@ -115,7 +115,7 @@ loop-hop-preserved g c =
     let here : IsCapacityUpto (times c.args.q (term_at ts i).value) (base_at graph.bases i) hop.u hop.v a b = rw (means h i l term is) told in
     let upto = rw inv.1.bases at here in
     let fit : kept_fits t.fits term note c.args.q (base_at graph.bases i) = rw c.row-x.ensures at (simp to_z-of_z at o.noted) in
-    let more = amount_more ts c.args.q c.args.graph.now.bases c.requires.graph.are_bases c.args.hops.now k c.args.most a b can inv.0 upto (λ j lj. c.requires.movable j (omega (arith, lj, c.loop-hop-test.true))) in
+    let more = amount_more ts c.args.q c.args.graph.now.bases c.requires.ready.claimed.are_bases c.args.hops.now k c.args.most a b can inv.0 upto (λ j lj. c.requires.movable j (omega (arith, lj, c.loop-hop-test.true))) in
     simp to_z-of_z (
       more,
       record {
@@ -137,8 +137,8 @@ loop-hop-preserved g c =
       },
     )
 
-pub returns-clause-graph : goal.returns-clause-graph
-returns-clause-graph g c = let fq : FitsSigned w128 c.args.q = c.ranges.q in simp to_z-of_z at c.loop-hop.invariant.1.claimed
+pub returns-clause-still : goal.returns-clause-still
+returns-clause-still g c = let fq : FitsSigned w128 c.args.q = c.ranges.q in simp to_z-of_z at c.loop-hop.invariant.1
 
 pub returns-clause-greatest : goal.returns-clause-greatest
 returns-clause-greatest g c =
@@ -147,9 +147,6 @@ returns-clause-greatest g c =
     let inv = simp to_z-of_z at c.loop-hop.invariant in
     let done : c.loop-hop.hop-index ≡ length c.args.hops.now = omega (arith, c.loop-hop.auto.hop-index-end, c.loop-hop-test.false) in
     λ b lb moves. inv.0.greatest b lb (λ j l. moves j (omega (arith, l, done)))
-
-pub returns-clause-bases : goal.returns-clause-bases
-returns-clause-bases g c = c.loop-hop.invariant.1.bases
 
 pub returns-clause-some : goal.returns-clause-some
 returns-clause-some g c = c.loop-hop.invariant.0.some

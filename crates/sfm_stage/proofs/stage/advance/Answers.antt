@@ -5,6 +5,7 @@ use Rattle.sfm_spec.specs.Families.{meanings}
 use Rattle.sfm_spec.specs.Walks.{last_of}
 use Rattle.sfm_exchange.specs.Hops.{Moves, hop_at, steps_of}
 use Rattle.sfm_exchange.proofs.ClaimedGraphs.{are_terms}
+use Rattle.sfm_exchange.proofs.Still.{ready}
 use Rattle.sfm_stage.proofs.Moving.{ends_apart, high_first, kept_then, low_last, stage_order, stage_serves}
 use Rattle.sfm_stage.proofs.stage.advance.Given as given
 use Rattle.sfm_stage.proofs.stage.advance.Goals as goal
@@ -30,14 +31,14 @@ amount g c =
     let by_last = rw (c.deref-2.ensures.value, last) at m.by_last in
     (o.some, omega (arith, ints, by_first, within), omega (arith, ints, by_last, within), omega (arith, ints, m.most, within), rw c.deref-3.ensures.value at o.moves)
 
-pub amount_of-requires-clause-small : goal.amount_of-requires-clause-small
-amount_of-requires-clause-small g c = λ k d l i e lt. let s = c.requires.small k d l i e lt in record { low = omega (arith, ints, s.low); high = omega (arith, ints, s.high) }
+pub amount_of-requires-clause-ready : goal.amount_of-requires-clause-ready
+amount_of-requires-clause-ready g c = ready c.requires.graph (λ k d l i e lt. let s = c.requires.small k d l i e lt in record { low = omega (arith, ints, s.low); high = omega (arith, ints, s.high) })
 
 pub amount_of-requires-clause-movable : goal.amount_of-requires-clause-movable
 amount_of-requires-clause-movable g c = rw c.deref-3.ensures.value c.requires.course.movable
 
 pub move_along-requires-clause-small : goal.move_along-requires-clause-small
-move_along-requires-clause-small g c = rw c.in_ok-a.ensures.bases (λ k d l i e lt. let s = c.requires.small k d l i e lt in record { low = omega (arith, ints, s.low); high = omega (arith, ints, s.high) })
+move_along-requires-clause-small g c = rw c.in_ok-a.ensures.still.bases (λ k d l i e lt. let s = c.requires.small k d l i e lt in record { low = omega (arith, ints, s.low); high = omega (arith, ints, s.high) })
 
 pub move_along-requires-clause-order : goal.move_along-requires-clause-order
 move_along-requires-clause-order g c =
@@ -45,7 +46,7 @@ move_along-requires-clause-order g c =
     let r = c.requires in
     let fa : FitsSigned w128 c.in_ok-a.a = search rules in
     let a = amount g (goal.at.move_along-requires-clause-order g c).In_ok-a in
-    simp to_z-of_z (rw c.in_ok-a.ensures.bases (stage_order r.kept r.course r.order c.in_ok-a.a a.0 a.1 a.2 (are_terms r.graph m.family m.submodular) r.graph.are_bases a.4))
+    simp to_z-of_z (rw c.in_ok-a.ensures.still.bases (stage_order r.kept r.course r.order c.in_ok-a.a a.0 a.1 a.2 (are_terms r.graph m.family m.submodular) r.graph.are_bases a.4))
 
 pub settle-requires-clause-apart : goal.settle-requires-clause-apart
 settle-requires-clause-apart g c = ends_apart c.requires.kept c.requires.course c.requires.order
@@ -82,7 +83,7 @@ returns-clause-kept g c =
     let r = c.requires in
     let fa : FitsSigned w128 c.in_ok-a.a = search rules in
     let a = amount g (goal.at.returns-clause-kept g c).In_ok-a in
-    let moved = rw c.in_ok-a.ensures.bases at (simp to_z-of_z at c.in_ok-move_along.ensures.moved) in
+    let moved = rw c.in_ok-a.ensures.still.bases at (simp to_z-of_z at c.in_ok-move_along.ensures.moved) in
     let s = c.settle.ensures in
     kept_then r.kept r.course r.order c.in_ok-a.a a.0 a.1 a.2 (are_terms r.graph m.family m.submodular) r.graph.are_bases a.4 c.move_along.new.graph.bases moved c.settle.new.kept
     (simp to_z-of_z at s.low) (simp to_z-of_z at s.high) s.below s.above
@@ -93,5 +94,5 @@ returns-clause-serving g c =
     let r = c.requires in
     let fa : FitsSigned w128 c.in_ok-a.a = search rules in
     let a = amount g (goal.at.returns-clause-serving g c).In_ok-a in
-    let moved = rw c.in_ok-a.ensures.bases at (simp to_z-of_z at c.in_ok-move_along.ensures.moved) in
+    let moved = rw c.in_ok-a.ensures.still.bases at (simp to_z-of_z at c.in_ok-move_along.ensures.moved) in
     stage_serves r.kept r.course r.order c.in_ok-a.a a.0 a.1 a.2 (are_terms r.graph m.family m.submodular) r.graph.are_bases a.4 c.move_along.new.graph.bases moved a.3

@@ -10,7 +10,7 @@ use Rattle.sfm_walk.specs.Run.{IsGreatest}
 use Rattle.sfm_walk.proofs.Augmenting.{amount_small, apart, bounds_still, ends_moved, first_at, in_order, last_at, progress, rest_after, spread}
 use Rattle.sfm_exchange.proofs.ClaimedGraphs.{are_terms, low, own}
 use Rattle.sfm_exchange.proofs.Following.{depth_bound}
-use Rattle.sfm_exchange.proofs.Still.{over_word}
+use Rattle.sfm_exchange.proofs.Still.{over_word, ready}
 use Rattle.sfm_walk.proofs.advance.advance.Given as given
 use Rattle.sfm_walk.proofs.advance.advance.Goals as goal
 use Rattle.sfm_walk.proofs.advance.advance.Goals.{In_ok-a}
@@ -64,20 +64,20 @@ most_of-most-requires-clause-small g c =
     let shifts = c.requires.shifts in
     rw c.deref.ensures.value (rest-small t.places t.value_of c.args.terms.now c.args._shift.now bases c.args.run.now.z.items c.requires.running.at.is_rest c.requires.running.small b.few_places (omega (arith, ints, shifts)))
 
-pub amount_of-requires-clause-graph : goal.amount_of-requires-clause-graph
-amount_of-requires-clause-graph g c = let fq : FitsSigned w128 c.args.q = c.ranges.q in simp to_z-of_z (own c.requires.running.claimed)
-
-pub amount_of-requires-clause-small : goal.amount_of-requires-clause-small
-amount_of-requires-clause-small g c = c.requires.running.small
+pub amount_of-requires-clause-ready : goal.amount_of-requires-clause-ready
+amount_of-requires-clause-ready g c =
+    let fq : FitsSigned w128 c.args.q = c.ranges.q in
+    let h = c.requires.running in
+    simp to_z-of_z (ready h.claimed h.small)
 
 pub amount_of-requires-clause-movable : goal.amount_of-requires-clause-movable
 amount_of-requires-clause-movable g c = let fq : FitsSigned w128 c.args.q = c.ranges.q in simp to_z-of_z (rw c.deref-2.ensures.value c.requires.next.walk.movable)
 
 pub move_along-requires-clause-graph : goal.move_along-requires-clause-graph
-move_along-requires-clause-graph g c = own c.in_ok-a.ensures.graph
+move_along-requires-clause-graph g c = own c.in_ok-a.ensures.still.claimed
 
 pub move_along-requires-clause-small : goal.move_along-requires-clause-small
-move_along-requires-clause-small g c = rw c.in_ok-a.ensures.bases c.requires.small
+move_along-requires-clause-small g c = rw c.in_ok-a.ensures.still.bases c.requires.small
 
 pub move_along-requires-clause-high : goal.move_along-requires-clause-high
 move_along-requires-clause-high g c =
@@ -95,7 +95,7 @@ move_along-requires-clause-order g c =
     let fq : FitsSigned w128 c.args.q = c.ranges.q in
     let fa : FitsSigned w128 c.in_ok-a.a = search rules in
     let most = greatest g (goal.at.move_along-requires-clause-order g c).In_ok-a in
-    simp to_z-of_z (rw c.in_ok-a.ensures.bases (in_order c.requires.next.walk rest.places rest (low h) (are_terms h m.family m.submodular) h.are_bases c.in_ok-a.a most))
+    simp to_z-of_z (rw c.in_ok-a.ensures.still.bases (in_order c.requires.next.walk rest.places rest (low h) (are_terms h m.family m.submodular) h.are_bases c.in_ok-a.a most))
 
 pub move_along-requires-clause-falls : goal.move_along-requires-clause-falls
 move_along-requires-clause-falls g c = (depth_of c.args.run.now.levels.items, c.requires.next.walk.course.falls)
@@ -113,7 +113,7 @@ pub settle-requires-clause-apart : goal.settle-requires-clause-apart
 settle-requires-clause-apart g c = let rest = c.requires.running.at.is_rest in apart c.requires.next.walk rest.places rest
 
 pub returns-clause-graph : goal.returns-clause-graph
-returns-clause-graph g c = over_word (over_word c.requires.running.claimed c.in_ok-a.ensures.graph) c.in_ok-move_along.ensures.graph
+returns-clause-graph g c = over_word (over_word c.requires.running.claimed c.in_ok-a.ensures.still.claimed) c.in_ok-move_along.ensures.graph
 
 pub returns-clause-advanced : goal.returns-clause-advanced
 returns-clause-advanced g c =
@@ -128,7 +128,7 @@ returns-clause-advanced g c =
     let o = c.in_ok-a.ensures in
     let most = greatest g (goal.at.returns-clause-advanced g c).In_ok-a in
     let after = c.move_along.new.graph.bases in
-    let moved = rw o.bases at (simp to_z-of_z at c.in_ok-move_along.ensures.moved) in
+    let moved = rw o.still.bases at (simp to_z-of_z at c.in_ok-move_along.ensures.moved) in
     let z_is = simp to_z-of_z at c.settle.ensures.z in
     let signs = simp to_z-of_z at c.settle.ensures.signs in
     record {
@@ -170,7 +170,7 @@ returns-clause-labels g c =
     let rest = c.requires.running.at.is_rest in
     let most = greatest g (goal.at.returns-clause-labels g c).In_ok-a in
     let labels = c.requires.next.labels in
-    let moved = rw c.in_ok-a.ensures.bases at (simp to_z-of_z at c.in_ok-move_along.ensures.moved) in
+    let moved = rw c.in_ok-a.ensures.still.bases at (simp to_z-of_z at c.in_ok-move_along.ensures.moved) in
     let bounds = bounds_still c.requires.next.walk rest.places rest (low h) (are_terms h m.family m.submodular) h.are_bases c.in_ok-a.a most
     (λ e. let b = depth_bound c.args.run.now.levels.items e in let f = labels.few in omega (arith, b, f)) c.move_along.new.graph.bases moved in
     rw c.settle.ensures.levels (record { parted = labels.parted; few = labels.few; no_faster = bounds.falls; ends = bounds.lasts })

@@ -7,7 +7,7 @@ use Rattle.sfm_exchange.specs.Hops.{steps_of}
 use Rattle.sfm_exchange.specs.Levels.{IsAtLast, depth_of}
 use Rattle.sfm_exchange.proofs.Telling.{claims_readable}
 use Rattle.sfm_exchange.proofs.ClaimedGraphs.{are_terms, claims_in, counted, have_links, low, spot_rows, unions_count}
-use Rattle.sfm_exchange.proofs.Still.{over_word}
+use Rattle.sfm_exchange.proofs.Still.{over_word, ready}
 use Rattle.sfm_reach.specs.Bits.{bit_in}
 use Rattle.sfm_walk.proofs.Advancing.{least_walk}
 use Rattle.sfm_walk.proofs.Labelling.{IsBlocked, blocked, ended, labels_raised, sought_by_labels}
@@ -40,6 +40,9 @@ stuck_at-requires g c = λ none.
     let at = rw (none, c.deref-in-loop.ensures.value) at c.in_ok-end.ensures.end in
     let below = c.loop.invariant.2.parted.below 0 (last_of c.in-Some.first (steps_of c.descend.new.hops.items)) (omega (arith, some)) at.0 in
     rw c.last.ensures (omega (arith, below, few))
+
+pub prove_walk-requires-clause-ready : goal.prove_walk-requires-clause-ready
+prove_walk-requires-clause-ready g c = let h = c.loop.invariant.0 in ready h.claimed h.small
 
 -- where no walk is found by the levels
 is_blocked : (g : given.Over) (c : In-Some-stuck_at g) → IsBlocked (meanings g.T.Term.places g.T.Term.value_of c.args.terms.now) c.args._shift.now c.loop.graph.bases c.loop.graph.unions.items c.loop.run.levels.items c.in-Some-stuck_at.stuck
@@ -88,8 +91,8 @@ pub loop-preserved : goal.loop-preserved
 loop-preserved g c =
     let fq : FitsSigned w128 c.args.q = c.ranges.q in
     let inv = simp to_z-of_z at c.loop.invariant in
-    let o = c.in_ok-prove_walk.ensures in
-    simp to_z-of_z (goes_on inv.0 (over_word inv.0.claimed o.graph) o.bases refl refl, o.bases ∙ inv.1, rw o.bases inv.2)
+    let o = c.in_ok-prove_walk.ensures.still in
+    simp to_z-of_z (goes_on inv.0 (over_word inv.0.claimed o.claimed) o.bases refl refl, o.bases ∙ inv.1, rw o.bases inv.2)
 
 pub returns-in_default-clause-running : goal.returns-in_default-clause-running
 returns-in_default-clause-running g c =
@@ -101,8 +104,8 @@ pub returns-then-branch-clause-running : goal.returns-then-branch-clause-running
 returns-then-branch-clause-running g c =
     let fq : FitsSigned w128 c.args.q = c.ranges.q in
     let h = simp to_z-of_z at c.loop.invariant.0 in
-    let o = c.in_ok-prove_walk.ensures in
-    goes_on h (over_word h.claimed o.graph) o.bases refl refl
+    let o = c.in_ok-prove_walk.ensures.still in
+    goes_on h (over_word h.claimed o.claimed) o.bases refl refl
 
 pub returns-then-branch-clause-next : goal.returns-then-branch-clause-next
 returns-then-branch-clause-next g c = λ _.
@@ -122,7 +125,7 @@ returns-then-branch-clause-next g c = λ _.
     let (over, here, count) = ended _ _ _ c.loop.run.z.items rest c.loop.run.signs signs c.loop.graph.unions.items levels c.last.result (length hops + 1 ≡ length levels) c.in_ok-end.end c.stuck_at.result c.in_default-stuck_at.is c.stuck_at.ensures.stuck c.stuck_at.ensures.over (rw (v, ← c.last.ensures) at e.end) in
     let sought = sought_by_labels _ _ _ _ _ c.loop.run.z.items fit c.loop.graph.rows.items (claims_in h) levels first hops inv.2 (omega (arith, count, some)) e.hops (rw v at e.falls) (rw v at e.least) (omega (arith, some)) (rw c.last.ensures at here) ((signs.below first).0 under).1 (rw c.last.ensures at ((signs.above c.last.result).0 over).1) in
     let movable = rw c.deref-in-loop-2.ensures.value at (simp to_z-of_z at (c.in_ok-prove_walk.ensures.proved c.if-branch.true)) in
-    rw c.in_ok-prove_walk.ensures.bases (record {
+    rw c.in_ok-prove_walk.ensures.still.bases (record {
       walk = least_walk _ _ _ _ _ _ (low h) fit h.are_bases rest.places rest c.loop.graph.rows.items (depth_of levels) first hops sought movable;
       labels = inv.2;
     })

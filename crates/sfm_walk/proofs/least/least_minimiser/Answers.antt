@@ -3,8 +3,8 @@ use Rattle.std.proofs.lemmas.Int.{to_z-of_z}
 use mir.Syntax.{w128}
 use Rattle.sfm_spec.specs.Families.{meanings}
 use Rattle.sfm_law.specs.Rest.{IsRest}
-use Rattle.sfm_exchange.proofs.ClaimedGraphs.{are_terms, low, own}
-use Rattle.sfm_exchange.proofs.Still.{over_word}
+use Rattle.sfm_exchange.proofs.ClaimedGraphs.{are_terms, low}
+use Rattle.sfm_exchange.proofs.Still.{over_word, ready}
 use Rattle.sfm_exchange.proofs.Minimisers.{least_walked, under_are}
 use Rattle.sfm_walk.proofs.least.least_minimiser.Given as given
 use Rattle.sfm_walk.proofs.least.least_minimiser.Goals as goal
@@ -17,10 +17,10 @@ is_rest g c = let (places, exact) = c.requires.rest in record { places = places;
 pub signs_of-signs-requires : goal.signs_of-signs-requires
 signs_of-signs-requires g c = rw (c.as_slice.ensures, c.requires.rest.0) c.requires.graph.bounded.few
 
-pub walked_from-requires-clause-graph : goal.walked_from-requires-clause-graph
-walked_from-requires-clause-graph g c =
+pub walked_from-requires-clause-ready : goal.walked_from-requires-clause-ready
+walked_from-requires-clause-ready g c =
     let fq : FitsSigned w128 c.args.q = c.ranges.q in
-    simp to_z-of_z (own c.requires.graph)
+    simp to_z-of_z (ready c.requires.graph c.requires.small)
 
 pub walked_from-requires-clause-firsts : goal.walked_from-requires-clause-firsts
 walked_from-requires-clause-firsts g c = λ e one.
@@ -29,7 +29,7 @@ walked_from-requires-clause-firsts g c = λ e one.
     rw (c.requires.graph.are_spots.count, ← c.requires.rest.0) l
 
 pub returns-clause-graph : goal.returns-clause-graph
-returns-clause-graph g c = over_word c.requires.graph c.in_ok-walked.ensures.graph
+returns-clause-graph g c = over_word c.requires.graph c.in_ok-walked.ensures.still.claimed
 
 pub returns-clause-least : goal.returns-clause-least
 returns-clause-least g c =

@@ -1,4 +1,4 @@
-use Rattle.std.proofs.Common.{◌≡◌, ℤ, List, length, map, pos, ◌≤ℤ◌, replicate, rules, arith, FitsSigned}
+use Rattle.std.proofs.Common.{◌≡◌, ℤ, List, map, pos, ◌≤ℤ◌, replicate, rules, arith, FitsSigned}
 use Rattle.std.proofs.lemmas.Int.{ints, to_z-of_z}
 use Rattle.std.proofs.lemmas.List.{length-replicate}
 use Rattle.std.specs.Result.{IfOk}

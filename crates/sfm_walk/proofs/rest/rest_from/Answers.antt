@@ -1,4 +1,4 @@
-use Rattle.std.proofs.Common.{◌≡◌, ◌<◌, ◌^◌, ⊎_elim, ℕ, [], ◌∷◌, ◌++◌, length, get_or, pos, ◌-ℤ◌, ◌≤ℤ◌, ap, ◌∙◌, refl, rules, arith, FitsSigned}
+use Rattle.std.proofs.Common.{◌≡◌, ◌^◌, ⊎_elim, [], ◌∷◌, ◌++◌, length, get_or, pos, ◌-ℤ◌, ◌≤ℤ◌, ap, ◌∙◌, refl, rules, arith, FitsSigned}
 use Rattle.std.proofs.lemmas.Bool.{cases_lt}
 use Rattle.std.proofs.lemmas.Int.{ints, to_z-of_z}
 use Rattle.std.proofs.lemmas.List.{length-append}

@@ -6,8 +6,8 @@ use Rattle.sfm_spec.specs.Families.{meanings}
 use Rattle.sfm_exchange.specs.Levels.{AreClosed, IsFirst, depth_of}
 use Rattle.sfm_exchange.specs.Spots.{AreSpots}
 use Rattle.sfm_exchange.proofs.Telling.{claims_readable}
-use Rattle.sfm_exchange.proofs.ClaimedGraphs.{are_terms, claims_in, counted, have_links, low, own, shaped, spot_rows, unions_count}
-use Rattle.sfm_exchange.proofs.Still.{over_word}
+use Rattle.sfm_exchange.proofs.ClaimedGraphs.{are_terms, claims_in, counted, have_links, low, shaped, spot_rows, unions_count}
+use Rattle.sfm_exchange.proofs.Still.{over_word, ready}
 use Rattle.sfm_exchange.proofs.Joining.{none_joins}
 use Rattle.sfm_reach.proofs.Options.{match_none, match_some}
 use Rattle.sfm_walk.proofs.Advancing.{least_walk, sought_walk}
@@ -52,8 +52,8 @@ follow-requires-clause-first g c =
     let first = is_first g (goal.at.follow-requires-clause-first g c).In-Some in
     rw (c.deref-in-Some.ensures.value, c.deref-in-Some-2.ensures.value) (subst (λ k. IsFirst k unions c.loop-first.run.z.items c.find_levels.new.levels.items c.in-Some.first) (sym (unions_count c.loop-first.invariant.0.claimed)) first)
 
-pub prove_walk-requires-clause-graph : goal.prove_walk-requires-clause-graph
-prove_walk-requires-clause-graph g c = own c.loop-first.invariant.0.claimed
+pub prove_walk-requires-clause-ready : goal.prove_walk-requires-clause-ready
+prove_walk-requires-clause-ready g c = let h = c.loop-first.invariant.0 in ready h.claimed h.small
 
 pub prove_walk-requires-clause-told : goal.prove_walk-requires-clause-told
 prove_walk-requires-clause-told g c = (c.in-Some.first, rw c.deref-in-Some-3.ensures.value c.in_ok-follow.ensures.hops)
@@ -65,18 +65,18 @@ pub loop-first-preserved : goal.loop-first-preserved
 loop-first-preserved g c =
     let fq : FitsSigned w128 c.args.q = c.ranges.q in
     let inv = simp to_z-of_z at c.loop-first.invariant in
-    let o = c.in_ok-proved.ensures in
-    simp to_z-of_z (goes_on inv.0 (over_word inv.0.claimed o.graph) o.bases refl refl, o.bases ∙ inv.1)
+    let o = c.in_ok-proved.ensures.still in
+    simp to_z-of_z (goes_on inv.0 (over_word inv.0.claimed o.claimed) o.bases refl refl, o.bases ∙ inv.1)
 
 pub returns-then-proved-clause-running : goal.returns-then-proved-clause-running
 returns-then-proved-clause-running g c =
     let fq : FitsSigned w128 c.args.q = c.ranges.q in
     let inv = simp to_z-of_z at c.loop-first.invariant in
-    let o = c.in_ok-proved.ensures in
-    goes_on inv.0 (over_word inv.0.claimed o.graph) o.bases refl refl
+    let o = c.in_ok-proved.ensures.still in
+    goes_on inv.0 (over_word inv.0.claimed o.claimed) o.bases refl refl
 
 pub returns-then-proved-clause-bases : goal.returns-then-proved-clause-bases
-returns-then-proved-clause-bases g c = c.in_ok-proved.ensures.bases ∙ c.loop-first.invariant.1
+returns-then-proved-clause-bases g c = c.in_ok-proved.ensures.still.bases ∙ c.loop-first.invariant.1
 
 pub returns-then-proved-clause-next : goal.returns-then-proved-clause-next
 returns-then-proved-clause-next g c = λ _.
@@ -96,7 +96,7 @@ returns-then-proved-clause-next g c = λ _.
     let v = c.deref-in-Some-2.ensures.value in
     let sought = sought_walk _ _ _ _ _ _ (low h) fit h.are_bases rest.places rest c.loop-first.graph.unions.items links levels first found tables (claims_in h) hops e.some e.hops (rw v at e.falls) (rw v at e.least) (rw v at e.last) in
     let movable = rw c.deref-in-Some-3.ensures.value at (simp to_z-of_z at (c.in_ok-proved.ensures.proved c.if-proved.true)) in
-    rw c.in_ok-proved.ensures.bases (record {
+    rw c.in_ok-proved.ensures.still.bases (record {
       walk = least_walk _ _ _ _ _ _ (low h) fit h.are_bases rest.places rest tables (depth_of levels) first hops sought movable;
       labels = labels_found _ _ _ _ _ _ (low h) fit h.are_bases c.loop-first.graph.unions.items links rest.places rest levels first found;
     })
@@ -120,9 +120,6 @@ returns-clause-ends g c = λ _.
     let closed : AreClosed (length c.args._shift.now) unions c.loop-first.run.z.items levels = subst (λ n. AreClosed n unions c.loop-first.run.z.items levels) rest.places (rw (c.deref-in-loop-first.ensures.value, c.deref-in-loop-first-2.ensures.value) at shut) in
     let fit = are_terms h m.family m.submodular in
     none_joins _ _ _ _ _ _ (low h) fit h.are_bases rest.places rest unions levels (have_links h fit) closed
-
-pub prove_walk-requires-clause-small : goal.prove_walk-requires-clause-small
-prove_walk-requires-clause-small g c = c.loop-first.invariant.0.small
 
 pub find_levels-requires-clause-few : goal.find_levels-requires-clause-few
 find_levels-requires-clause-few g c = rw (c.deref-in-loop-first-2.ensures.value, c.loop-first.invariant.0.at.is_rest.places) c.loop-first.invariant.0.claimed.bounded.few

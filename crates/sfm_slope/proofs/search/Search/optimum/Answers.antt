@@ -3,7 +3,8 @@ use Rattle.std.proofs.lemmas.Int.{ints}
 use Rattle.std.proofs.lemmas.List.{length-replicate}
 use Rattle.sfm_spec.specs.Bounds.{IsAtMost}
 use Rattle.sfm_exchange.specs.Graph.{IsWhole}
-use Rattle.sfm_exchange.proofs.ClaimedGraphs.{own, shaped, whole_claimed}
+use Rattle.sfm_exchange.proofs.ClaimedGraphs.{shaped, whole_claimed}
+use Rattle.sfm_exchange.proofs.Still.{ready}
 use Rattle.sfm_walk.proofs.Starting.{even_small}
 use Rattle.sfm_slope.proofs.search.Search.optimum.Given as given
 use Rattle.sfm_slope.proofs.search.Search.optimum.Goals as goal
@@ -16,11 +17,8 @@ improve_from_start-requires-clause-shifts g c =
     let same : c.deref.result.now ≡ replicate n (pos 0) = search rules in
     even_small c.deref.result.now n (pos 0) none c.requires.search.first.bounded.few same
 
-pub ask_claimed-requires-clause-graph : goal.ask_claimed-requires-clause-graph
-ask_claimed-requires-clause-graph g c = own c.in_ok-improve_from_start.ensures.graph
-
-pub ask_claimed-requires-clause-small : goal.ask_claimed-requires-clause-small
-ask_claimed-requires-clause-small g c = c.in_ok-improve_from_start.ensures.optimal.small
+pub ask_claimed-requires : goal.ask_claimed-requires
+ask_claimed-requires g c = let o = c.in_ok-improve_from_start.ensures in record { ready = ready o.graph o.optimal.small }
 
 -- the graph is whole over the places of the search
 whole : (g : given.Over) (c : In_ok-ask_claimed g) → IsWhole g.T.Term c.args.terms.now (length c.args.self.now.shift.items) (pos 1) c.ask_claimed.new.graph
