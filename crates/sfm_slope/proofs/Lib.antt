@@ -10,3 +10,4 @@ pub mod Starts
 pub mod Ones
 pub mod Reached
 pub mod Worthing
+pub mod Behind

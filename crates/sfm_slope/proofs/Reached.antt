@@ -1,12 +1,11 @@
 -- Bases that walks reach at each of some breakpoints, and what a stage over them adds.
-use Rattle.std.proofs.Common.{◌≡◌, ⊎_elim, ℕ, ◌+◌, ◌*◌, ◌^◌, ◌<◌, ◌≤◌, List, [], ◌∷◌, ◌++◌, length, map, take, drop, get_or, ℤ, pos, ◌*ℤ◌, ◌≤ℤ◌, refl, sym, ap, subst, ◌∙◌, append_assoc, arith}
+use Rattle.std.proofs.Common.{◌≡◌, ⊎_elim, ℕ, ◌+◌, ◌*◌, ◌^◌, ◌<◌, ◌≤◌, List, [], ◌∷◌, length, map, get_or, ℤ, pos, ◌*ℤ◌, ◌≤ℤ◌, refl, sym, subst, ◌∙◌, arith}
 use Rattle.std.specs.List.{All}
 use Rattle.std.proofs.lemmas.Int.{ints}
 use Rattle.std.proofs.lemmas.Bool.{cases_lt}
-use Rattle.std.proofs.lemmas.List.{get_or-map, get_or_default, length-map, map-append, take-append-drop, take_more}
+use Rattle.std.proofs.lemmas.List.{get_or-map, get_or_default, length-map}
 use Rattle.sfm_law.specs.declared.term.Term.{Ghosts}
 use Rattle.sfm_spec.specs.Families.{Meaning, meanings, sized_shift}
-use Rattle.sfm_spec.specs.Terms.{SetFunction}
 use Rattle.sfm_spec.specs.Walks.{IsWalkChain, few_walks}
 use Rattle.sfm_spec.proofs.LeastWalks.{few_walks_small}
 use Rattle.sfm_spec.proofs.Scaled.{times-assoc, times-cancel, times-comm, times-mono}
@@ -108,18 +107,6 @@ module _ {X N : Type 0} {T : Ghosts X N} {terms : List X} {sizes : List ℤ}
     {found : List Breakpoint} {standing : Standing N} (h : IsStanding T terms sizes found standing) where
   pub standing_over : (others : List Breakpoint) → ((P : Breakpoint → Type 0) → All P found → All P others) → IsStanding T terms sizes others standing
   standing_over others among = record { claimed = h.claimed; small = h.small; few = h.few; reached = among (λ b. IsWalkChain (meanings T.places T.value_of terms) b.slope.den (sized_shift sizes b.slope.num) standing.walks (rows_times b.slope.den (map (λ x. T.start_of x (pos 1)) terms)) (rows_times b.slope.den standing.graph.bases)) h.reached }
-
--- what a list is mapped to behind others, with one element more
-pub mapped_behind : {X Y : Type 0} (f : X → Y) (xs : List X) (i : ℕ) (d : X) (front done : List Y) (y : Y) → i < length xs → done ≡ front ++ map f (take i xs) → y ≡ f (get_or xs i d)
-    → done ++ y ∷ [] ≡ front ++ map f (take (i + 1) xs)
-mapped_behind f xs i d front done y l before is = rw (take_more xs i d l, map-append f (take i xs) (get_or xs i d ∷ []), before, is)
-    (append_assoc front (map f (take i xs)) (f (get_or xs i d) ∷ []))
-
--- both parts of a list, one behind the other
-pub mapped_parts : {X Y : Type 0} (f : X → Y) (xs : List X) (i : ℕ) (front mid last : List Y) → mid ≡ front ++ map f (take i xs) → last ≡ mid ++ map f (drop i xs) → last ≡ front ++ map f xs
-mapped_parts f xs i front mid last one two =
-    two ∙ (ap (λ z. z ++ map f (drop i xs)) one ∙ (append_assoc front (map f (take i xs)) (map f (drop i xs))
-    ∙ (ap (λ z. front ++ z) (sym (map-append f (take i xs) (drop i xs))) ∙ ap (λ z. front ++ map f z) (take-append-drop i xs))))
 
 -- the number of few walks
 pub few_is : (n m : ℕ) → n + n * (n + 1) * (n * m + 1) ≡ few_walks n m

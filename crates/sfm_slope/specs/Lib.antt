@@ -7,3 +7,4 @@ pub mod Nears
 pub mod Turns
 pub mod Parts
 pub mod Standings
+pub mod Behind

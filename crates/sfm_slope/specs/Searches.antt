@@ -1,7 +1,6 @@
 -- What the search for the breakpoints keeps.
-use Rattle.std.specs.Prelude.{◌≡◌, ℕ, List, ℤ, pos, length, map}
+use Rattle.std.specs.Prelude.{◌≡◌, ℕ, List, pos, length, map}
 use Rattle.sfm_law.specs.declared.term.Term.{Ghosts}
-use Rattle.sfm_spec.specs.Terms.{SetFunction}
 use Rattle.sfm_exchange.specs.Graph.{IsClaimed, IsShaped}
 use Rattle.sfm_slope.specs.declared.search.Search.{Search}
 

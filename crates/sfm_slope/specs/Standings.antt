@@ -3,7 +3,6 @@ use Rattle.std.specs.Prelude.{ℕ, ◌^◌, ◌≤◌, List, length, map, ℤ, p
 use Rattle.std.specs.List.{All}
 use Rattle.sfm_law.specs.declared.term.Term.{Ghosts}
 use Rattle.sfm_spec.specs.Bounds.{IsEntry}
-use Rattle.sfm_spec.specs.Terms.{SetFunction}
 use Rattle.sfm_spec.specs.Families.{Meaning, meanings, sized_shift, AreBases, Prove}
 use Rattle.sfm_spec.specs.Walks.{IsWalkChain, IsFewWalks}
 use Rattle.sfm_exchange.specs.Graph.{IsClaimed}

@@ -15,24 +15,32 @@ pub struct Attained {
     pub value: i128,
 }
 
+/// The slope p/q, by numbers that may have a common divisor.
+#[derive(Clone, Copy)]
+pub struct Line {
+    pub p: i128,
+    pub q: i128,
+    pub ghost small: { IsAtMost (10 ^ 21) p },
+    pub ghost factor: { IsFactor q },
+}
+
 /// What a minimiser is worth, where its shift is that of the slope p/q: the sum is what q times it, less p times the weight of the
 /// set, makes the least value.
-pub fn worth_by(found: Attained, sizes: &[i128], p: i128, q: i128) -> Worth
+pub fn worth_by(found: Attained, sizes: &[i128], line: Line) -> Worth
     requires sizes { AreElementSizes (length found.set) sizes.now }
-    requires small { IsAtMost (10 ^ 21) p }
-    requires factor { IsFactor q }
     requires value { (sum : ℤ) × IsGiven sum
-        × (found.value ≡ (q *ℤ sum -ℤ p *ℤ sum_over found.set sizes.now)) }
+        × (found.value ≡ (line.q *ℤ sum -ℤ line.p *ℤ sum_over found.set sizes.now)) }
     ensures same { result.set ≡ found.set }
     ensures size { result.size ≡ size found.set }
     ensures weight { result.weight ≡ sum_over found.set sizes.now }
     ensures sum { (sum : ℤ) → IsGiven sum
-        → found.value ≡ (q *ℤ sum -ℤ p *ℤ sum_over found.set sizes.now) → result.sum ≡ sum }
+        → found.value ≡ (line.q *ℤ sum -ℤ line.p *ℤ sum_over found.set sizes.now)
+        → result.sum ≡ sum }
 {
     let Attained { set, value } = found;
     let size = set.size();
     let weight = weight_of(&set, sizes);
-    let sum = (value + p * weight).div_euclid(q);
+    let sum = (value + line.p * weight).div_euclid(line.q);
     Worth {
         set,
         size,

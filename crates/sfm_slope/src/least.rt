@@ -5,11 +5,11 @@
 // a minimiser is worth follows from the sum of min(z, 0), which it attains.
 ghost use Rattle.std.specs.{Prelude.{◌≡◌, ◌^◌, true, length, map, pos, ◌*ℤ◌, ◌≤ℤ◌, IfOk, OnOk}, List.{All}};
 ghost use Rattle.sfm_spec.specs.{Bounds.{IsAtMost, IsFactor}, Families.{meanings, shifted_at, sized_shift, IsLeast}, Sets.{magnitudes}, Slopes.{IsSameSlope}};
-ghost use Rattle.sfm_exchange.specs.Graph.{IsClaimed};
+ghost use Rattle.sfm_exchange.specs.Graph.{IsClaimed, IsShaped};
 ghost use Rattle.sfm_sizes.specs.Sizes.{AreElementSizes};
 ghost use Rattle.sfm_slope.specs.{Nears.{IsLeastNear}, Searches.{IsSearch}, Worths.{IsWorth}};
 
-use crate::attained::{Attained, worth_by};
+use crate::attained::{Attained, Line, worth_by};
 use crate::rows::grains;
 use crate::search::{GRAIN, Search, set_shift};
 use crate::worth::Worth;
@@ -92,9 +92,16 @@ fn least_below<T: Term>(
 {
     let alloc = search.alloc;
     keep_small(alloc, &mut search.warm, terms, &search.first)?;
-    set_shift(&mut search.shift, sizes, p);
-    let least = least_by(alloc, &mut search.warm, terms, GRAIN, &search.shift)?;
-    Ok(worth_by(least, sizes, p, GRAIN))
+    let line = Line { p, q: GRAIN };
+    let least = least_on(
+        alloc,
+        &mut search.warm,
+        terms,
+        &mut search.shift,
+        sizes,
+        line,
+    )?;
+    Ok(least)
 }
 
 // The least minimiser at a slope, where the walks begin at a multiple of the warm bases.
@@ -117,9 +124,16 @@ fn least_at<T: Term>(
     let p = grains(slope.num);
     let q = grains(slope.den);
     multiply_warm(search, terms, slope.den, sizes)?;
-    set_shift(&mut search.shift, sizes, p);
-    let least = least_by(alloc, &mut search.cold, terms, q, &search.shift)?;
-    Ok(worth_by(least, sizes, p, q))
+    let line = Line { p, q };
+    let least = least_on(
+        alloc,
+        &mut search.cold,
+        terms,
+        &mut search.shift,
+        sizes,
+        line,
+    )?;
+    Ok(least)
 }
 
 // The least minimiser at a slope, where the walks begin at the first bases.
@@ -138,10 +152,20 @@ fn least_from_first<T: Term>(
     ensures worth { IfOk result (IsWorth (meanings T.places T.value_of terms.now) sizes.now) }
 {
     let alloc = search.alloc;
-    restart_by(alloc, &mut search.cold, terms, slope.den, &search.first)?;
-    set_shift(&mut search.shift, sizes, slope.num);
-    let least = least_by(alloc, &mut search.cold, terms, slope.den, &search.shift)?;
-    Ok(worth_by(least, sizes, slope.num, slope.den))
+    restart_first(alloc, &mut search.cold, terms, slope.den, &search.first)?;
+    let line = Line {
+        p: slope.num,
+        q: slope.den,
+    };
+    let least = least_on(
+        alloc,
+        &mut search.cold,
+        terms,
+        &mut search.shift,
+        sizes,
+        line,
+    )?;
+    Ok(least)
 }
 
 // The greatest magnitude of an entry that may be multiplied.
@@ -171,7 +195,7 @@ fn multiply_warm<T: Term>(
         restart_times(alloc, &mut search.cold, terms, q, &warm)?;
         return Ok(());
     }
-    restart_by(alloc, &mut search.cold, terms, grains(q), &search.first)?;
+    restart_first(alloc, &mut search.cold, terms, grains(q), &search.first)?;
     Ok(())
 }
 
@@ -192,8 +216,52 @@ fn keep_small<T: Term>(
     if graph.bases.are_within(10_000_000_000_000_000_000_000_000) {
         return Ok(());
     }
-    restart_by(alloc, graph, terms, GRAIN, first)?;
+    restart_first(alloc, graph, terms, GRAIN, first)?;
     Ok(())
+}
+
+// Takes a graph to the first bases, of q times the terms.
+fn restart_first<T: Term>(
+    alloc: Global,
+    graph: &mut Graph<T::Note>,
+    terms: &[T],
+    q: i128,
+    first: &Graph<T::Note>,
+) -> Result<(), Memory>
+    requires factor { IsFactor q }
+    requires graph { IsShaped T.Term terms.now (length graph.old.spots.items) graph.old }
+    requires first { IsClaimed T.Term terms.now (length graph.old.spots.items) (pos 1) first.now }
+    requires begins { first.now.bases ≡ map (λ term. T.start_of term (pos 1)) terms.now }
+    ensures graph { OnOk result (IsClaimed T.Term terms.now (length graph.old.spots.items) q
+        graph.new) }
+    ensures small { OnOk result (All (λ x. All (IsAtMost (10 ^ 25)) x) graph.new.bases) }
+{
+    restart_by(alloc, graph, terms, q, first)?;
+    Ok(())
+}
+
+// The least minimiser at the slope p/q, where the walks begin at bases of q times the terms.
+fn least_on<T: Term>(
+    alloc: Global,
+    graph: &mut Graph<T::Note>,
+    terms: &[T],
+    shift: &mut Vec<i128>,
+    sizes: &[i128],
+    line: Line,
+) -> Result<Worth, Memory>
+    requires sizes { AreElementSizes (length sizes.now) sizes.now }
+    requires places { length shift.old.items ≡ length sizes.now }
+    requires graph { IsClaimed T.Term terms.now (length sizes.now) line.q graph.old }
+    requires small { All (λ x. All (IsAtMost (10 ^ 25)) x) graph.old.bases }
+    ensures places { OnOk result (length shift.new.items ≡ length sizes.now) }
+    ensures graph { OnOk result (IsClaimed T.Term terms.now (length sizes.now) line.q graph.new) }
+    ensures least { IfOk result (λ r. IsLeast (meanings T.places T.value_of terms.now)
+        (length sizes.now) line.q (sized_shift sizes.now line.p) r.set) }
+    ensures worth { IfOk result (IsWorth (meanings T.places T.value_of terms.now) sizes.now) }
+{
+    set_shift(shift, sizes, line.p);
+    let least = least_by(alloc, graph, terms, line.q, shift.as_slice())?;
+    Ok(worth_by(least, sizes, line))
 }
 
 // The least minimiser of q times the terms less the shift, from the bases of the graph, with the least value.

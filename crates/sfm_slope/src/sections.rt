@@ -1,10 +1,9 @@
 // The bases of each breakpoint. They hang on the terms and the slopes alone, and few walks lead to them from the first bases,
 // however the breakpoints were found. Where there are few, or many more terms of few places each, each is found by a run of its own
 // from the first bases, and else by a tree of stages.
-ghost use Rattle.std.specs.{Prelude.{◌≡◌, ◌++◌, length, map, IfOk, OnOk}, List.{All}};
-ghost use Rattle.sfm_spec.specs.Families.{meanings};
+ghost use Rattle.std.specs.{Prelude.{[], length, IfOk, OnOk}, List.{All}};
 ghost use Rattle.sfm_sizes.specs.Sizes.{AreElementSizes};
-ghost use Rattle.sfm_slope.specs.{Marks.{HasBasesBy, mark_of}, Points.{IsInRange, found_mark}, Searches.{IsSearch}};
+ghost use Rattle.sfm_slope.specs.{Behind.{AreBehind, HasSection, IsSectionOf}, Points.{IsInRange}, Searches.{IsSearch}};
 
 use crate::search::{Search, set_shift};
 use crate::standing::first_standing;
@@ -25,9 +24,7 @@ pub fn sections<T: Term>(
     requires sizes { AreElementSizes (length sizes.now) sizes.now }
     requires search { IsSearch T.Term terms.now (length sizes.now) search.old }
     requires ranges { All (IsInRange sizes.now) found.now }
-    ensures marks { IfOk result (λ r. map mark_of r.items ≡ map found_mark found.now) }
-    ensures bases { IfOk result (λ r. All (HasBasesBy (meanings T.places T.value_of terms.now)
-        (λ q. map (λ term. T.start_of term q) terms.now) (length sizes.now) sizes.now) r.items) }
+    ensures { IfOk result (λ r. AreBehind T.Term terms.now sizes.now found.now [] r.items) }
 {
     let mut breaks = Vec::new(search.alloc);
     if found.len() < FEW_BREAKPOINTS || is_dear(terms, found.len()) {
@@ -69,14 +66,9 @@ pub fn each_section<T: Term>(
     requires sizes { AreElementSizes (length sizes.now) sizes.now }
     requires search { IsSearch T.Term terms.now (length sizes.now) search.old }
     requires ranges { All (IsInRange sizes.now) found.now }
-    requires before { All (HasBasesBy (meanings T.places T.value_of terms.now)
-        (λ q. map (λ term. T.start_of term q) terms.now) (length sizes.now) sizes.now)
-        breaks.old.items }
+    requires before { All (HasSection T.Term terms.now sizes.now) breaks.old.items }
     ensures search { OnOk result (IsSearch T.Term terms.now (length sizes.now) search.new) }
-    ensures marks { OnOk result (map mark_of breaks.new.items
-        ≡ map mark_of breaks.old.items ++ map found_mark found.now) }
-    ensures bases { OnOk result (All (HasBasesBy (meanings T.places T.value_of terms.now)
-        (λ q. map (λ term. T.start_of term q) terms.now) (length sizes.now) sizes.now)
+    ensures behind { OnOk result (AreBehind T.Term terms.now sizes.now found.now breaks.old.items
         breaks.new.items) }
 {
     for point in found {
@@ -100,9 +92,7 @@ pub fn section<T: Term>(
     requires search { IsSearch T.Term terms.now (length sizes.now) search.old }
     requires range { IsInRange sizes.now point.now }
     ensures search { OnOk result (IsSearch T.Term terms.now (length sizes.now) search.new) }
-    ensures mark { IfOk result (λ r. mark_of r ≡ found_mark point.now) }
-    ensures bases { IfOk result (HasBasesBy (meanings T.places T.value_of terms.now)
-        (λ q. map (λ term. T.start_of term q) terms.now) (length sizes.now) sizes.now) }
+    ensures found { IfOk result (IsSectionOf T.Term terms.now sizes.now point.now) }
 {
     let slope = point.slope;
     let set = point.set.copy(search.alloc)?;

@@ -3,11 +3,11 @@
 // each goes on by itself from the bases of the part, multiplied by the denominator of its slope. The walks of the stages and
 // those of the breakpoint's own run lead, one after the other, from the first bases to its section, and are counted. Where
 // there are too many, as where numbers are too large, the section is found from the first bases anew.
-ghost use Rattle.std.specs.{Prelude.{◌≡◌, ◌++◌, ◌∷◌, [], ◌^◌, ◌≤◌, true, length, map, pos, ◌≤ℤ◌, IfOk, OnOk, IfSome}, List.{All}};
+ghost use Rattle.std.specs.{Prelude.{◌∷◌, [], ◌^◌, ◌≤◌, true, length, map, pos, ◌≤ℤ◌, IfOk, OnOk, IfSome}, List.{All}};
 ghost use Rattle.sfm_spec.specs.{Bounds.{IsAtMost}, Families.{meanings, sized_shift}, Walks.{IsWalkChain}};
 ghost use Rattle.sfm_sizes.specs.Sizes.{AreElementSizes};
 ghost use Rattle.sfm_exchange.specs.Scaled.{rows_times};
-ghost use Rattle.sfm_slope.specs.{Marks.{HasBasesBy, mark_of}, Points.{IsInRange, found_mark}, Searches.{IsSearch}, Standings.{IsStanding, IsSection}};
+ghost use Rattle.sfm_slope.specs.{Behind.{AreBehind, HasSection, IsSectionOf}, Points.{IsInRange}, Searches.{IsSearch}, Standings.{IsStanding, IsSection}};
 
 use crate::search::{Search, set_shift};
 use crate::sections::{each_section, section};
@@ -36,14 +36,9 @@ pub fn branch<T: Term>(
     requires search { IsSearch T.Term terms.now (length sizes.now) search.old }
     requires ranges { All (IsInRange sizes.now) found.now }
     requires standing { IsStanding T.Term terms.now sizes.now found.now at }
-    requires before { All (HasBasesBy (meanings T.places T.value_of terms.now)
-        (λ q. map (λ term. T.start_of term q) terms.now) (length sizes.now) sizes.now)
-        breaks.old.items }
+    requires before { All (HasSection T.Term terms.now sizes.now) breaks.old.items }
     ensures search { OnOk result (IsSearch T.Term terms.now (length sizes.now) search.new) }
-    ensures marks { OnOk result (map mark_of breaks.new.items
-        ≡ map mark_of breaks.old.items ++ map found_mark found.now) }
-    ensures bases { OnOk result (All (HasBasesBy (meanings T.places T.value_of terms.now)
-        (λ q. map (λ term. T.start_of term q) terms.now) (length sizes.now) sizes.now)
+    ensures behind { OnOk result (AreBehind T.Term terms.now sizes.now found.now breaks.old.items
         breaks.new.items) }
 {
     let few = most_walks(sizes.len(), terms.len());
@@ -81,14 +76,9 @@ fn leaves<T: Term>(
     requires search { IsSearch T.Term terms.now (length sizes.now) search.old }
     requires ranges { All (IsInRange sizes.now) found.now }
     requires standing { IsStanding T.Term terms.now sizes.now found.now at.now }
-    requires before { All (HasBasesBy (meanings T.places T.value_of terms.now)
-        (λ q. map (λ term. T.start_of term q) terms.now) (length sizes.now) sizes.now)
-        breaks.old.items }
+    requires before { All (HasSection T.Term terms.now sizes.now) breaks.old.items }
     ensures search { OnOk result (IsSearch T.Term terms.now (length sizes.now) search.new) }
-    ensures marks { OnOk result (map mark_of breaks.new.items
-        ≡ map mark_of breaks.old.items ++ map found_mark found.now) }
-    ensures bases { OnOk result (All (HasBasesBy (meanings T.places T.value_of terms.now)
-        (λ q. map (λ term. T.start_of term q) terms.now) (length sizes.now) sizes.now)
+    ensures behind { OnOk result (AreBehind T.Term terms.now sizes.now found.now breaks.old.items
         breaks.new.items) }
 {
     if !at.graph.bases.are_within(MOST_MULTIPLIED) {
@@ -114,9 +104,7 @@ fn leaf<T: Term>(
     requires standing { IsStanding T.Term terms.now sizes.now (point.now ∷ []) at.now }
     requires small { All (λ x. All (IsAtMost (10 ^ 19)) x) at.now.graph.bases }
     ensures search { OnOk result (IsSearch T.Term terms.now (length sizes.now) search.new) }
-    ensures mark { IfOk result (λ r. mark_of r ≡ found_mark point.now) }
-    ensures bases { IfOk result (HasBasesBy (meanings T.places T.value_of terms.now)
-        (λ q. map (λ term. T.start_of term q) terms.now) (length sizes.now) sizes.now) }
+    ensures found { IfOk result (IsSectionOf T.Term terms.now sizes.now point.now) }
 {
     let slope = point.slope;
     if let Some(bases) = walk_on(search, terms, sizes, slope, at)? {

@@ -1,11 +1,11 @@
-use Rattle.std.proofs.Common.{◌≡◌, ◌^◌, pos, ◌*ℤ◌, ap, ◌∙◌, FitsSigned, arith}
+use Rattle.std.proofs.Common.{◌≡◌, ◌^◌, pos, ◌*ℤ◌, FitsSigned, arith}
 use Rattle.std.proofs.lemmas.Int.{ints, to_z-of_z}
 use mir.Syntax.{w128}
-use Rattle.sfm_exchange.specs.Scaled.{rows_times}
 use Rattle.sfm_exchange.proofs.ClaimedGraphs.{shaped}
 use Rattle.sfm_slope.proofs.Scaled.{factor-grains, rows-small, small_from_abs}
-use Rattle.sfm_slope.proofs.Starts.{firsts_small, multiples_small}
+use Rattle.sfm_slope.proofs.least.multiply_warm.Given as given
 use Rattle.sfm_slope.proofs.least.multiply_warm.Goals as goal
+use Rattle.sfm_slope.proofs.least.multiply_warm.Goals.{After-grains}
 
 pub restart_times-requires-clause-factor : goal.restart_times-requires-clause-factor
 restart_times-requires-clause-factor g c =
@@ -35,35 +35,31 @@ returns-then-are_within g c =
       small = rw bases (rows-small c.args.q c.args.search.now.warm.bases r.factor (small_from_abs (10 ^ 19) c.args.search.now.warm.bases (c.are_within.ensures.0 c.if-are_within.true)));
     }
 
-pub restart_by-requires : goal.restart_by-requires
-restart_by-requires g c =
-    let t = g.T.Term in
-    let m = g.met.T.Term in
-    let fq : FitsSigned w128 c.args.q = c.ranges.q in
+-- 64 times the factor
+grained : (g : given.Over) (c : After-grains g) → c.grains.result ≡ (c.args.q *ℤ pos 64)
+grained g c = let fq : FitsSigned w128 c.args.q = c.ranges.q in simp to_z-of_z at c.grains.ensures.times
+
+pub restart_first-requires : goal.restart_first-requires
+restart_first-requires g c =
     let r = c.requires in
-    let times : c.grains.result ≡ (c.args.q *ℤ pos 64) = simp to_z-of_z at c.grains.ensures.times in
     let small = c.grains.ensures.small in
     let fg : FitsSigned w128 c.grains.result = omega (arith, ints, small.low, small.high) in
     simp to_z-of_z (record {
-      factor = rw times (factor-grains c.args.q r.factor r.few);
+      factor = rw (grained g (goal.at.restart_first-requires g c).After-grains) (factor-grains c.args.q r.factor r.few);
       graph = rw r.search.cold.are_spots.count r.search.cold;
-      other = rw r.search.cold.are_spots.count r.search.first;
-      small = rw r.search.begins (firsts_small t.places t.value_of t.size_of m.submodular m.bounded _ c.args.terms.now r.search.first.bounded t.start_of m.starts_times m.starts_small);
+      first = rw r.search.cold.are_spots.count r.search.first;
+      begins = r.search.begins;
     })
 
 pub returns : goal.returns
 returns g c =
-    let t = g.T.Term in
-    let m = g.met.T.Term in
-    let fq : FitsSigned w128 c.args.q = c.ranges.q in
     let r = c.requires in
-    let times : c.grains.result ≡ (c.args.q *ℤ pos 64) = simp to_z-of_z at c.grains.ensures.times in
     let small = c.grains.ensures.small in
     let fg : FitsSigned w128 c.grains.result = omega (arith, ints, small.low, small.high) in
-    let graph = rw times at (simp to_z-of_z at (rw r.search.cold.are_spots.count at c.in_ok-restart_by.ensures.graph)) in
-    let bases = simp to_z-of_z at c.in_ok-restart_by.ensures.bases in
+    let o = c.in_ok-restart_first.ensures in
+    let graph = rw (grained g (goal.at.returns g c).After-grains) at (simp to_z-of_z at (rw r.search.cold.are_spots.count at o.graph)) in
     record {
       search = record { first = r.search.first; begins = r.search.begins; warm = r.search.warm; cold = shaped graph; shift = r.search.shift };
       graph = graph;
-      small = rw (bases ∙ ap (rows_times c.grains.result) r.search.begins) (multiples_small t.places t.value_of t.size_of m.submodular m.bounded _ c.args.terms.now r.search.first.bounded t.start_of m.starts_times m.starts_small c.grains.result (rw times (factor-grains c.args.q r.factor r.few)));
+      small = o.small;
     }

@@ -1,4 +1,4 @@
-use Rattle.std.proofs.Common.{◌≡◌, length, ap, ◌∙◌, FitsSigned, arith}
+use Rattle.std.proofs.Common.{◌≡◌, length, ap, ◌∙◌, FitsSigned, rules, arith}
 use Rattle.std.proofs.lemmas.Int.{ints, to_z-of_z}
 use Rattle.std.proofs.lemmas.List.{length-map}
 use mir.Syntax.{w128}
@@ -55,12 +55,15 @@ returns-clause-search g c =
       shift = c.set_shift.ensures.places;
     }
 
-pub returns-clause-bases : goal.returns-clause-bases
-returns-clause-bases g c =
+pub returns-clause-found : goal.returns-clause-found
+returns-clause-found g c =
     let s = c.args.point.now.slope in
     let fq : FitsSigned w128 s.den = omega (arith, ints, s.factor.low, s.factor.high) in
-    let same = written g (goal.at.returns-clause-bases g c).After-deref in
+    let same = written g (goal.at.returns-clause-found g c).After-deref in
     let h = c.in_ok-bases.ensures in
     let proves = rw (same, length-map c.args.sizes.now _) at h.optimal.proves in
     let few = rw (same, length-map c.args.sizes.now _) at h.few in
-    record { bases = simp to_z-of_z at h.optimal.bases; small = h.optimal.small; proves = simp to_z-of_z at proves; reached = simp to_z-of_z at few; few = c.requires.range.few }
+    record {
+      mark = search rules;
+      bases = record { bases = simp to_z-of_z at h.optimal.bases; small = h.optimal.small; proves = simp to_z-of_z at proves; reached = simp to_z-of_z at few; few = c.requires.range.few };
+    }

@@ -1,12 +1,12 @@
-use Rattle.std.proofs.Common.{◌≡◌, ◌-◌, ◌/◌, ◌^◌, ◌≤◌, ◌<◌, ℕ, List, length, map, take, drop, arith}
+use Rattle.std.proofs.Common.{◌≡◌, ◌-◌, ◌/◌, ◌^◌, ◌≤◌, ◌<◌, ℕ, List, length, take, drop, arith}
 use Rattle.std.proofs.Math.Nat.{mul-div-le, lt-mul-div-succ}
 use Rattle.std.proofs.lemmas.List.{length-drop, length-take-le, take_all}
 use Rattle.std.proofs.lemmas.List.Elements.{All-drop, All-take}
 use Rattle.sfm_slope.specs.declared.turn.Breakpoint.{Breakpoint}
-use Rattle.sfm_slope.specs.Marks.{mark_of}
-use Rattle.sfm_slope.specs.Points.{IsInRange, found_mark}
-use Rattle.sfm_slope.proofs.Reached.{mapped_parts, standing_over}
+use Rattle.sfm_slope.specs.Points.{IsInRange}
+use Rattle.sfm_slope.proofs.Reached.{standing_over}
 use Rattle.sfm_slope.proofs.Scaled.{small_from_abs, small_within}
+use Rattle.sfm_slope.proofs.Behind.{behind_parts}
 use Rattle.sfm_slope.proofs.tree.+branch.Goals as goal
 
 -- half of two or more is less than all, and not nothing
@@ -46,13 +46,12 @@ branch-search-requires-2 g t c = λ κs lives.
     let half = half_less (length found) c.if-found-lt2.false in
     let same = behind found k (omega (arith, half)) in
     let l = length-drop k found in
-    rw same (omega (arith, half, l), (lives.0, (lives.1, (c.requires.sizes, (f.search, (All-drop P k found c.requires.ranges, (standing_over c.in_ok-stage_over.ensures (drop k found) (λ Q all. All-drop Q k found all), f.bases)))))))
+    rw same (omega (arith, half, l), (lives.0, (lives.1, (c.requires.sizes, (f.search, (All-drop P k found c.requires.ranges, (standing_over c.in_ok-stage_over.ensures (drop k found) (λ Q all. All-drop Q k found all), f.behind.bases)))))))
 
-pub returns-clause-marks : goal.returns-clause-marks
-returns-clause-marks g t c =
+pub returns-clause-behind : goal.returns-clause-behind
+returns-clause-behind g t c =
     let found = c.args.found.now in
     let k = length found / 2 in
     let half = half_less (length found) c.if-found-lt2.false in
     let same = behind found k (omega (arith, half)) in
-    mapped_parts found_mark found k (map mark_of c.args.breaks.now.items) (map mark_of c.branch-search.new.breaks.items) (map mark_of c.branch-search-2.new.breaks.items)
-    c.in_ok-branch.ensures.marks (rw same at c.in_ok-branch-2.ensures.marks)
+    behind_parts found k c.branch-search.new.breaks.items c.branch-search-2.new.breaks.items c.in_ok-branch.ensures.behind (rw same at c.in_ok-branch-2.ensures.behind)

@@ -1,4 +1,4 @@
-use Rattle.std.proofs.Common.{subst, arith}
+use Rattle.std.proofs.Common.{rules, subst, arith}
 use Rattle.sfm_spec.specs.Families.{meanings, sized_shift}
 use Rattle.sfm_spec.specs.Walks.{IsWalkChain}
 use Rattle.sfm_exchange.specs.Scaled.{rows_times}
@@ -16,7 +16,10 @@ walk_on-requires-clause-chain g c =
     subst (λ z. IsWalkChain ts s.den shift at.walks z (rows_times s.den at.graph.bases)) (starts_times t.start_of m.starts_times s.den c.args.terms.now)
     (c.requires.standing.reached 0 c.args.point.now (omega arith))
 
-pub returns-in-Some-clause-bases : goal.returns-in-Some-clause-bases
-returns-in-Some-clause-bases g c =
+pub returns-in-Some-clause-found : goal.returns-in-Some-clause-found
+returns-in-Some-clause-found g c =
     let s = rw c.in-Some.is at c.in_ok-bases.ensures.section in
-    record { bases = s.bases; small = s.small; proves = s.proves; reached = s.reached; few = c.requires.range.few }
+    record {
+      mark = search rules;
+      bases = record { bases = s.bases; small = s.small; proves = s.proves; reached = s.reached; few = c.requires.range.few };
+    }

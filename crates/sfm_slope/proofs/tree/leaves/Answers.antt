@@ -1,11 +1,8 @@
-use Rattle.std.proofs.Common.{◌≡◌, ◌^◌, [], ◌∷◌, length, map, sym, ap, subst, ◌∙◌}
-use Rattle.std.proofs.lemmas.List.{map-append}
-use Rattle.std.proofs.lemmas.List.Elements.{All-append, All-nil, All-cons}
-use Rattle.sfm_spec.specs.Families.{meanings}
-use Rattle.sfm_slope.specs.Marks.{HasBasesBy, mark_of}
-use Rattle.sfm_slope.specs.Points.{found_mark}
-use Rattle.sfm_slope.proofs.Reached.{mapped_behind, standing_over}
+use Rattle.std.proofs.Common.{◌^◌, [], ◌∷◌, sym, subst}
+use Rattle.std.proofs.lemmas.List.Elements.{All-nil, All-cons}
+use Rattle.sfm_slope.proofs.Reached.{standing_over}
 use Rattle.sfm_slope.proofs.Scaled.{small_from_abs}
+use Rattle.sfm_slope.proofs.Behind.{behind_all, behind_more, behind_none}
 use Rattle.sfm_slope.proofs.tree.leaves.Goals as goal
 
 pub leaf-requires-clause-standing : goal.leaf-requires-clause-standing
@@ -16,20 +13,16 @@ leaf-requires-clause-standing g c =
 pub leaf-requires-clause-small : goal.leaf-requires-clause-small
 leaf-requires-clause-small g c = small_from_abs (10 ^ 19) c.args.at.now.graph.bases (c.are_within.ensures.0 c.if-not-are_within.false)
 
+pub loop-point-init : goal.loop-point-init
+loop-point-init g c = record { search = c.requires.search; behind = behind_none c.requires.before }
+
 pub loop-point-preserved : goal.loop-point-preserved
 loop-point-preserved g c =
-    let t = g.T.Term in
-    let i = c.loop-point.point-index in
-    let found = c.args.found.now in
-    let point = c.point-item.result in
-    let b = c.in_ok-leaf.field-0 in
-    let before = c.loop-point.invariant in
-    let breaks = c.loop-point.breaks.items in
-    let P = HasBasesBy (meanings t.places t.value_of c.args.terms.now) (λ q. map (λ x. t.start_of x q) c.args.terms.now) (length c.args.sizes.now) c.args.sizes.now in
-    let told : mark_of b ≡ found_mark point = c.in_ok-leaf.ensures.mark in
+    let o = c.in_ok-leaf.ensures in
     record {
-      search = c.in_ok-leaf.ensures.search;
-      marks = rw (c.in_ok-push.ensures.items, map-append mark_of breaks (b ∷ []))
-          (mapped_behind found_mark found i point (map mark_of c.args.breaks.now.items) (map mark_of breaks) (mark_of b) c.loop-point-test.true before.marks (told ∙ ap found_mark c.point-item.is));
-      bases = rw c.in_ok-push.ensures.items (All-append P breaks (b ∷ []) before.bases (All-cons P b [] c.in_ok-leaf.ensures.bases (All-nil P)));
+      search = o.search;
+      behind = rw c.in_ok-push.ensures.items (behind_more c.args.found.now c.loop-point.point-index c.point-item.result c.in_ok-leaf.field-0 c.loop-point.breaks.items c.loop-point-test.true c.point-item.is c.loop-point.invariant.behind o.found);
     }
+
+pub returns-clause-behind : goal.returns-clause-behind
+returns-clause-behind g c = behind_all c.args.found.now c.loop-point.point-index c.loop-point.breaks.items c.loop-point-test.false c.loop-point.invariant.behind
