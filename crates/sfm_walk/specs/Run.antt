@@ -1,12 +1,12 @@
 -- What a minimisation keeps beside the graph.
-use Rattle.std.specs.Prelude.{◌≡◌, ℕ, ◌+◌, ◌<◌, ◌≤◌, List, length, slice_index_or, ℤ, pos, ◌<ℤ◌, ◌≤ℤ◌, neg_ℤ}
+use Rattle.std.specs.Prelude.{◌≡◌, ℕ, ◌+◌, ◌<◌, ◌≤◌, Bool, true, false, List, length, slice_index_or, ℤ, pos, ◌<ℤ◌, ◌≤ℤ◌, neg_ℤ}
 use Rattle.std.specs.List.{All}
 use Rattle.sfm_law.specs.declared.term.Term.{Ghosts}
 use Rattle.sfm_spec.specs.Bounds.{IsEntry}
 use Rattle.sfm_spec.specs.Families.{Meaning, meanings, rest_at}
 use Rattle.sfm_spec.specs.Labels.{FallsAlong}
 use Rattle.sfm_spec.specs.Progress.{IsProgress, TakesLeastSteps}
-use Rattle.sfm_spec.specs.Walks.{Step, IsStep, IsShortest, last_of}
+use Rattle.sfm_spec.specs.Walks.{Step, IsStep, IsShortest, Joins, last_of}
 use Rattle.sfm_law.specs.Rest.{IsRest}
 use Rattle.sfm_walk.specs.Labels.{AreLabels}
 use Rattle.sfm_walk.specs.Spread.{AreSpread}
@@ -54,6 +54,13 @@ pub record IsLeastWalk (terms : List Meaning) (n : ℕ) (q : ℤ) (shift : List 
 pub record IsNext {X N : Type 0} (T : Ghosts X N) (terms : List X) (q : ℤ) (shift : List ℤ) (graph : Graph N) (run : Run) : Type 0 where
   pub walk : IsLeastWalk (meanings T.places T.value_of terms) (length shift) q shift graph.bases run.z.items (depth_of run.levels.items) run.path.first run.path.hops.items
   pub labels : AreLabels (meanings T.places T.value_of terms) (length shift) q shift graph.bases run.levels.items
+
+-- the run after a search at the bases before: it has the next walk where one was found, and else none joins
+pub record IsSearched {X N : Type 0} (T : Ghosts X N) (terms : List X) (q : ℤ) (shift : List ℤ) (before after : Graph N) (run : Run) (found : Bool) : Type 0 where
+  pub running : IsRunning T terms q shift after run
+  pub bases : after.bases ≡ before.bases
+  pub next : found ≡ true → IsNext T terms q shift after run
+  pub ends : found ≡ false → (first : ℕ) (steps : List Step) → Joins (meanings T.places T.value_of terms) q shift after.bases first steps → ⊥
 
 -- a walk of least steps as the rows tell it, which lack no step but may have too many
 pub record IsSoughtWalk (terms : List Meaning) (n : ℕ) (q : ℤ) (shift : List ℤ) (rows : List (List ℤ)) (tables : List (List Bits)) (z : List ℤ) (d : ℕ → ℕ) (first : ℕ) (hops : List Hop) : Type 0 where

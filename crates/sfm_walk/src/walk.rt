@@ -2,9 +2,9 @@
 // z > 0 has fewer steps, and each step is the least of those that lead on. The search takes the rows that are claimed as they
 // are: they lack no step, so where all steps of its walk are true ones, it is such a walk, and where it finds none, none joins.
 // Each walk that is refused leaves fewer rows claimed. The levels of the walk before are tried first.
-ghost use Rattle.std.specs.Prelude.{◌≡◌, ◌<◌, ℕ, List, length, true, false, OnOk, IfOk};
-ghost use Rattle.sfm_spec.specs.{Families.{meanings}, Walks.{Step, Joins}};
-ghost use Rattle.sfm_walk.specs.{Labels.{AreLabels}, Run.{IsNext, IsRunning}};
+ghost use Rattle.std.specs.Prelude.{length, IfOk};
+ghost use Rattle.sfm_spec.specs.Families.{meanings};
+ghost use Rattle.sfm_walk.specs.{Labels.{AreLabels}, Run.{IsRunning, IsSearched}};
 
 use crate::labels::kept_walk;
 use crate::run::Run;
@@ -25,13 +25,7 @@ pub fn next_walk<T: Term>(
     requires running { IsRunning T.Term terms.now q _shift.now graph.old run.old }
     requires labels { AreLabels (meanings T.places T.value_of terms.now)
         (length _shift.now) q _shift.now graph.old.bases run.old.levels.items }
-    ensures running { OnOk result (IsRunning T.Term terms.now q _shift.now graph.new run.new) }
-    ensures bases { OnOk result (graph.new.bases ≡ graph.old.bases) }
-    ensures next { IfOk result (λ r. r ≡ true
-        → IsNext T.Term terms.now q _shift.now graph.new run.new) }
-    ensures ends { IfOk result (λ r. r ≡ false → (first : ℕ) (steps : List Step)
-        → Joins (meanings T.places T.value_of terms.now) q _shift.now graph.new.bases first steps
-        → ⊥) }
+    ensures { IfOk result (IsSearched T.Term terms.now q _shift.now graph.old graph.new run.new) }
 {
     if kept_walk(alloc, graph, terms, q, _shift, run)? {
         return Ok(true);
@@ -49,13 +43,7 @@ pub(crate) fn searched_walk<T: Term>(
     run: &mut Run,
 ) -> Result<bool, Memory>
     requires { IsRunning T.Term terms.now q _shift.now graph.old run.old }
-    ensures running { OnOk result (IsRunning T.Term terms.now q _shift.now graph.new run.new) }
-    ensures bases { OnOk result (graph.new.bases ≡ graph.old.bases) }
-    ensures next { IfOk result (λ r. r ≡ true
-        → IsNext T.Term terms.now q _shift.now graph.new run.new) }
-    ensures ends { IfOk result (λ r. r ≡ false → (first : ℕ) (steps : List Step)
-        → Joins (meanings T.places T.value_of terms.now) q _shift.now graph.new.bases first steps
-        → ⊥) }
+    ensures { IfOk result (IsSearched T.Term terms.now q _shift.now graph.old graph.new run.new) }
 {
     while let Some(first) = find_levels(
         &graph.back,

@@ -68,18 +68,8 @@ loop-first-preserved g c =
     let o = c.in_ok-proved.ensures.still in
     simp to_z-of_z (goes_on inv.0 (over_word inv.0.claimed o.claimed) o.bases refl refl, o.bases ∙ inv.1)
 
-pub returns-then-proved-clause-running : goal.returns-then-proved-clause-running
-returns-then-proved-clause-running g c =
-    let fq : FitsSigned w128 c.args.q = c.ranges.q in
-    let inv = simp to_z-of_z at c.loop-first.invariant in
-    let o = c.in_ok-proved.ensures.still in
-    goes_on inv.0 (over_word inv.0.claimed o.claimed) o.bases refl refl
-
-pub returns-then-proved-clause-bases : goal.returns-then-proved-clause-bases
-returns-then-proved-clause-bases g c = c.in_ok-proved.ensures.still.bases ∙ c.loop-first.invariant.1
-
-pub returns-then-proved-clause-next : goal.returns-then-proved-clause-next
-returns-then-proved-clause-next g c = λ _.
+pub returns-then-proved : goal.returns-then-proved
+returns-then-proved g c =
     let m = g.met.T.Term in
     let fq : FitsSigned w128 c.args.q = c.ranges.q in
     let inv = simp to_z-of_z at c.loop-first.invariant in
@@ -90,36 +80,41 @@ returns-then-proved-clause-next g c = λ _.
     let tables = c.loop-first.graph.rows.items in
     let levels = c.find_levels.new.levels.items in
     let first = c.in-Some.first in
-    let found = is_first g (goal.at.returns-then-proved-clause-next g c).In-Some in
+    let found = is_first g (goal.at.returns-then-proved g c).In-Some in
     let hops = c.follow.new.hops.items in
     let e = c.in_ok-follow.ensures in
+    let o = c.in_ok-proved.ensures in
     let v = c.deref-in-Some-2.ensures.value in
     let sought = sought_walk _ _ _ _ _ _ (low h) fit h.are_bases rest.places rest c.loop-first.graph.unions.items links levels first found tables (claims_in h) hops e.some e.hops (rw v at e.falls) (rw v at e.least) (rw v at e.last) in
-    let movable = rw c.deref-in-Some-3.ensures.value at (simp to_z-of_z at (c.in_ok-proved.ensures.proved c.if-proved.true)) in
-    rw c.in_ok-proved.ensures.still.bases (record {
-      walk = least_walk _ _ _ _ _ _ (low h) fit h.are_bases rest.places rest tables (depth_of levels) first hops sought movable;
-      labels = labels_found _ _ _ _ _ _ (low h) fit h.are_bases c.loop-first.graph.unions.items links rest.places rest levels first found;
-    })
+    let movable = rw c.deref-in-Some-3.ensures.value at (simp to_z-of_z at (o.proved c.if-proved.true)) in
+    record {
+      running = goes_on inv.0 (over_word h o.still.claimed) o.still.bases refl refl;
+      bases = o.still.bases ∙ inv.1;
+      next = λ _. rw o.still.bases (record {
+        walk = least_walk _ _ _ _ _ _ (low h) fit h.are_bases rest.places rest tables (depth_of levels) first hops sought movable;
+        labels = labels_found _ _ _ _ _ _ (low h) fit h.are_bases c.loop-first.graph.unions.items links rest.places rest levels first found;
+      });
+      ends = λ no. absurd (false≢true (sym no));
+    }
 
-pub returns-clause-running : goal.returns-clause-running
-returns-clause-running g c =
-    let fq : FitsSigned w128 c.args.q = c.ranges.q in
-    let inv = simp to_z-of_z at c.loop-first.invariant in
-    goes_on inv.0 inv.0.claimed refl refl refl
-
-pub returns-clause-ends : goal.returns-clause-ends
-returns-clause-ends g c = λ _.
+pub returns : goal.returns
+returns g c =
     let m = g.met.T.Term in
     let fq : FitsSigned w128 c.args.q = c.ranges.q in
-    let inv = simp to_z-of_z at c.loop-first.invariant.0 in
-    let h = inv.claimed in
-    let rest = inv.at.is_rest in
+    let inv = simp to_z-of_z at c.loop-first.invariant in
+    let h = inv.0.claimed in
+    let rest = inv.0.at.is_rest in
     let unions = c.loop-first.graph.unions.items in
     let levels = c.find_levels.new.levels.items in
     let shut = match_none c.in_ok-first.field-0 _ _ c.in_ok-first.ensures c.in_default.not-Some in
     let closed : AreClosed (length c.args._shift.now) unions c.loop-first.run.z.items levels = subst (λ n. AreClosed n unions c.loop-first.run.z.items levels) rest.places (rw (c.deref-in-loop-first.ensures.value, c.deref-in-loop-first-2.ensures.value) at shut) in
     let fit = are_terms h m.family m.submodular in
-    none_joins _ _ _ _ _ _ (low h) fit h.are_bases rest.places rest unions levels (have_links h fit) closed
+    record {
+      running = goes_on inv.0 h refl refl refl;
+      bases = inv.1;
+      next = λ yes. absurd (false≢true yes);
+      ends = λ _. none_joins _ _ _ _ _ _ (low h) fit h.are_bases rest.places rest unions levels (have_links h fit) closed;
+    }
 
 pub find_levels-requires-clause-few : goal.find_levels-requires-clause-few
 find_levels-requires-clause-few g c = rw (c.deref-in-loop-first-2.ensures.value, c.loop-first.invariant.0.at.is_rest.places) c.loop-first.invariant.0.claimed.bounded.few
@@ -132,12 +127,3 @@ find_levels-requires-clause-turned g c = rw (c.deref-in-loop-first.ensures.value
 
 pub find_levels-requires-clause-signs : goal.find_levels-requires-clause-signs
 find_levels-requires-clause-signs g c = rw c.deref-in-loop-first-2.ensures.value c.loop-first.invariant.0.at.signs
-
-pub returns-clause-bases : goal.returns-clause-bases
-returns-clause-bases g c = c.loop-first.invariant.1
-
-pub returns-clause-next : goal.returns-clause-next
-returns-clause-next g c = λ yes. absurd (false≢true yes)
-
-pub returns-then-proved-clause-ends : goal.returns-then-proved-clause-ends
-returns-then-proved-clause-ends g c = λ no. absurd (false≢true (sym no))
