@@ -40,6 +40,10 @@ lowest_of-second version TableWord = let m = most_written-high version in omega 
 lowest_of-second version ConcaveWord = let m = most_written-high version in omega (arith, ints, m)
 lowest_of-second version _ = omega (arith, ints)
 
+-- an entry is kept as it is
+pub kept-entry : (v : ℤ) → IsEntry v → to_z w128 (of_z w128 v) ≡ v
+kept-entry v h = omega (arith, ints)
+
 -- the bounds are kept as they are
 pub kept-lowest : (version : Version) (word : TermWord) (r : ℤ) → r ≡ lowest_of version word → to_z w128 (of_z w128 r) ≡ lowest_of version word
 kept-lowest version word r e = let l = lowest_of-low version word in let h = lowest_of-high version word in omega (arith, ints, e, l, h)

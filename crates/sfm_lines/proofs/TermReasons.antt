@@ -29,18 +29,21 @@ use Rattle.sfm_lines.proofs.Numbers.{from-same}
 use Rattle.sfm_lines.proofs.Colons.{none-any}
 use Rattle.sfm_lines.proofs.Repeats.{twice-at, twice-same}
 
--- none of the reasons below the k-th
+-- none of the reasons below the k-th, of what has no reason Long or Short
+pub none-before : (Has : Reason → Type 0) (k : ℕ) → (Has Long → ⊥) → (1 < k → Has Bytes → ⊥) → (2 < k → Has Word → ⊥) → (3 < k → Has Shape → ⊥) → (4 < k → Has Number → ⊥) → (5 < k → Has Name → ⊥) → (6 < k → Has Twice → ⊥) → (7 < k → Has Law → ⊥) → (8 < k → Has Total → ⊥) → (Has Short → ⊥) → (reason : Reason) → reason_order reason < k → Has reason → ⊥
+none-before Has k long bytes word shape number name twice law total short Long lt h = long h
+none-before Has k long bytes word shape number name twice law total short Bytes lt h = bytes lt h
+none-before Has k long bytes word shape number name twice law total short Word lt h = word lt h
+none-before Has k long bytes word shape number name twice law total short Shape lt h = shape lt h
+none-before Has k long bytes word shape number name twice law total short Number lt h = number lt h
+none-before Has k long bytes word shape number name twice law total short Name lt h = name lt h
+none-before Has k long bytes word shape number name twice law total short Twice lt h = twice lt h
+none-before Has k long bytes word shape number name twice law total short Law lt h = law lt h
+none-before Has k long bytes word shape number name twice law total short Total lt h = total lt h
+none-before Has k long bytes word shape number name twice law total short Short lt h = short h
+
 pub none-below : (s : State) (line : List ℕ) (k : ℕ) → (1 < k → HasPlainly s line Bytes → ⊥) → (2 < k → HasPlainly s line Word → ⊥) → (3 < k → HasPlainly s line Shape → ⊥) → (4 < k → HasPlainly s line Number → ⊥) → (5 < k → HasPlainly s line Name → ⊥) → (6 < k → HasPlainly s line Twice → ⊥) → (7 < k → HasPlainly s line Law → ⊥) → (8 < k → HasPlainly s line Total → ⊥) → (reason : Reason) → reason_order reason < k → HasPlainly s line reason → ⊥
-none-below s line k bytes word shape number name twice law total Long lt h = h
-none-below s line k bytes word shape number name twice law total Bytes lt h = bytes lt h
-none-below s line k bytes word shape number name twice law total Word lt h = word lt h
-none-below s line k bytes word shape number name twice law total Shape lt h = shape lt h
-none-below s line k bytes word shape number name twice law total Number lt h = number lt h
-none-below s line k bytes word shape number name twice law total Name lt h = name lt h
-none-below s line k bytes word shape number name twice law total Twice lt h = twice lt h
-none-below s line k bytes word shape number name twice law total Law lt h = law lt h
-none-below s line k bytes word shape number name twice law total Total lt h = total lt h
-none-below s line k bytes word shape number name twice law total Short lt h = h
+none-below s line k bytes word shape number name twice law total = none-before (HasPlainly s line) k (λ h. h) bytes word shape number name twice law total (λ h. h)
 
 -- a name stands at one place
 pub place-same : (names : List (List ℕ)) → AllPairs (λ a b. a ≢ b) names → (text : List ℕ) (a b : ℕ) → IsElement names text a → IsElement names text b → a ≡ b
