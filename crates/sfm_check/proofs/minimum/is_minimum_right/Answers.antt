@@ -26,46 +26,23 @@ told o bounded offer bases chain between worth =
     offer.formed.least offer.formed.greatest
     (given_lowest (form_of o.instance.now) (said o) offer.formed) chain between worth
 
-pub are_blocks_right-requires-clause-bases : goal.are_blocks_right-requires-clause-bases
-are_blocks_right-requires-clause-bases c =
-    let h = told c.args.offer.now c.tell_kept.ensures.bounded c.requires.offer c.requires.bases
+pub are_blocks_right-requires : goal.are_blocks_right-requires
+are_blocks_right-requires c =
+    let o = c.args.offer.now in
+    let ms = meant o in
+    let n = elements o in
+    let zero = zero_shift n o.sizes.now c.requires.offer.sizes in
+    let h = told o c.tell_kept.ensures.bounded c.requires.offer c.requires.bases
     c.requires.chain
     (c.in_ok-are_between.ensures c.if-not-branch.false)
     (c.in_ok-are_worth_least.ensures c.if-not-branch-2.false) in
-    h.proved.bases
-
-pub are_blocks_right-requires-clause-prove : goal.are_blocks_right-requires-clause-prove
-are_blocks_right-requires-clause-prove c =
-    let ms = meant c.args.offer.now in
-    let n = elements c.args.offer.now in
-    let h = told c.args.offer.now c.tell_kept.ensures.bounded c.requires.offer c.requires.bases
-    c.requires.chain
-    (c.in_ok-are_between.ensures c.if-not-branch.false)
-    (c.in_ok-are_worth_least.ensures c.if-not-branch-2.false) in
-    subst (λ z. Prove ms n (pos 1) z c.args.offer.now.solved.now.bases)
-    (zero_shift n c.args.offer.now.sizes.now c.requires.offer.sizes) h.proved.proves
-
-pub are_blocks_right-requires-clause-least : goal.are_blocks_right-requires-clause-least
-are_blocks_right-requires-clause-least c =
-    let ms = meant c.args.offer.now in
-    let n = elements c.args.offer.now in
-    let h = told c.args.offer.now c.tell_kept.ensures.bounded c.requires.offer c.requires.bases
-    c.requires.chain
-    (c.in_ok-are_between.ensures c.if-not-branch.false)
-    (c.in_ok-are_worth_least.ensures c.if-not-branch-2.false) in
-    subst (λ z. IsLeast ms n (pos 1) z c.args.offer.now.solved.now.least)
-    (zero_shift n c.args.offer.now.sizes.now c.requires.offer.sizes) h.least
-
-pub are_blocks_right-requires-clause-greatest : goal.are_blocks_right-requires-clause-greatest
-are_blocks_right-requires-clause-greatest c =
-    let ms = meant c.args.offer.now in
-    let n = elements c.args.offer.now in
-    let h = told c.args.offer.now c.tell_kept.ensures.bounded c.requires.offer c.requires.bases
-    c.requires.chain
-    (c.in_ok-are_between.ensures c.if-not-branch.false)
-    (c.in_ok-are_worth_least.ensures c.if-not-branch-2.false) in
-    subst (λ z. IsGreatest ms n (pos 1) z c.args.offer.now.solved.now.greatest)
-    (zero_shift n c.args.offer.now.sizes.now c.requires.offer.sizes) h.greatest
+    record {
+      formed = c.requires.offer.formed;
+      bases = h.proved.bases;
+      prove = subst (λ z. Prove ms n (pos 1) z o.solved.now.bases) zero h.proved.proves;
+      least = subst (λ z. IsLeast ms n (pos 1) z o.solved.now.least) zero h.least;
+      greatest = subst (λ z. IsGreatest ms n (pos 1) z o.solved.now.greatest) zero h.greatest;
+    }
 
 pub returns : goal.returns
 returns c =

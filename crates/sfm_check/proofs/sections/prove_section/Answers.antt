@@ -11,7 +11,7 @@ use Rattle.sfm_check.specs.Offers.{elements, meant, said}
 use Rattle.sfm_sizes.proofs.Sized.{sized-small}
 use Rattle.sfm_check.proofs.Forming.{formed_parts, part_bases, same_section}
 use Rattle.sfm_check.proofs.sections.prove_section.Goals as goal
-use Rattle.sfm_check.proofs.sections.prove_section.Goals.{After-deref}
+use Rattle.sfm_check.proofs.sections.prove_section.Goals.{After-section_of-section, After-deref}
 
 pub shift_by-requires-clause-sizes : goal.shift_by-requires-clause-sizes
 shift_by-requires-clause-sizes c = rw c.requires.offer.sizes.places c.requires.offer.sizes
@@ -22,6 +22,12 @@ shift_by-requires-clause-small c =
     let entry = f.entry in
     let fn : FitsSigned w128 c.section_of-section.result.num = omega (arith, ints, entry) in
     simp to_z-of_z entry
+
+-- the denominator fits its type
+fits_den : (c : After-section_of-section) → FitsSigned w128 c.section_of-section.result.den
+fits_den c =
+    let factor = (formed_parts c.requires.offer.formed c.requires.at c.section_of-section.ensures).factor in
+    omega (arith, ints, factor)
 
 -- the shift is p for each unit of size
 shift : (c : After-deref) → c.deref.result.now ≡ sized_shift c.args.offer.now.sizes.now c.section_of-section.result.num
@@ -50,18 +56,13 @@ certify_at-requires-clause-small c =
 
 pub certify_at-requires-clause-bases : goal.certify_at-requires-clause-bases
 certify_at-requires-clause-bases c =
-    let f = formed_parts c.requires.offer.formed c.requires.at c.section_of-section.ensures in
-    let factor = f.factor in
-    let fd : FitsSigned w128 c.section_of-section.result.den = omega (arith, ints, factor) in
+    let fd = fits_den (goal.at.certify_at-requires-clause-bases c).After-section_of-section in
     rw c.terms.ensures.terms (simp to_z-of_z (part_bases c.args.offer.now.instance.now c.requires.offer.formed
     c.requires.bases c.requires.at c.section_of-section.ensures))
 
 pub returns : goal.returns
 returns c = λ p.
-    let f = formed_parts c.requires.offer.formed c.requires.at c.section_of-section.ensures in
-    let factor = f.factor in
-    let section = c.section_of-section.result in
-    let fd : FitsSigned w128 section.den = omega (arith, ints, factor) in
+    let fd = fits_den (goal.at.returns c).After-section_of-section in
     let is = shift (goal.at.returns c).After-deref in
     let found = c.in_ok-found.ensures.exact in
     let raw = rw (c.in-NotOptimal.is, c.terms.ensures.terms, c.names_len.ensures.len, is) at found in
@@ -77,9 +78,7 @@ returns-in-Proved c =
     let num = c.section_of-section.result.num in
     let den = c.section_of-section.result.den in
     let rows = c.section_of-section.result.bases.now in
-    let f = formed_parts c.requires.offer.formed c.requires.at c.section_of-section.ensures in
-    let factor = f.factor in
-    let fd : FitsSigned w128 den = omega (arith, ints, factor) in
+    let fd = fits_den (goal.at.returns-in-Proved c).After-section_of-section in
     let is = shift (goal.at.returns-in-Proved c).After-deref in
     let bases = part_bases c.args.offer.now.instance.now c.requires.offer.formed c.requires.bases c.requires.at
     c.section_of-section.ensures in
@@ -104,7 +103,5 @@ returns-in-Proved c =
 
 pub certify_at-requires-clause-factor : goal.certify_at-requires-clause-factor
 certify_at-requires-clause-factor c =
-    let f = formed_parts c.requires.offer.formed c.requires.at c.section_of-section.ensures in
-    let factor = f.factor in
-    let fd : FitsSigned w128 c.section_of-section.result.den = omega (arith, ints, factor) in
-    simp to_z-of_z factor
+    let fd = fits_den (goal.at.certify_at-requires-clause-factor c).After-section_of-section in
+    simp to_z-of_z (formed_parts c.requires.offer.formed c.requires.at c.section_of-section.ensures).factor
