@@ -6,12 +6,10 @@ use Rattle.std.proofs.lemmas.Int.{ints}
 use Rattle.std.proofs.lemmas.Option.{none-some}
 use Rattle.sfm_spec.specs.Bounds.{IsEntry}
 use Rattle.sfm_lines.specs.Weights.{IsWeightText}
+use Rattle.sfm_lines.proofs.Numbers.{kept-entry}
 
 pub entry-weight : (w : ℤ) → pos 1 ≤ℤ w → w ≤ℤ pos (10 ^ 15) → IsEntry w
 entry-weight w low high = record { low = omega (arith, ints, low); high = omega (arith, ints, high) }
-
-pub kept-entry : (w : ℤ) → IsEntry w → to_z w128 (of_z w128 w) ≡ w
-kept-entry w h = omega (arith, ints)
 
 pub some-told : (r : Option (Bor (List ℕ))) (b : Bool) (o : Option (List ℕ)) → b ≡ is_some r → MatchOption r (o ≡ None) (λ t. o ≡ Some t.now) → MatchBool b (IsSome o) (o ≡ None)
 some-told None b o is h = rw is h

@@ -3,7 +3,8 @@ use Rattle.std.specs.Int.{w128}
 use Rattle.std.proofs.lemmas.Int.{ints}
 use Rattle.std.proofs.lemmas.Option.{none-some, same_Some}
 use Rattle.sfm_lines.specs.Weights.{IsWeightText}
-use Rattle.sfm_weights.proofs.Texts.{entry-weight, kept-entry}
+use Rattle.sfm_lines.proofs.Numbers.{kept-entry}
+use Rattle.sfm_weights.proofs.Texts.{entry-weight}
 use Rattle.sfm_weights.proofs.entry.weight.Goals as goal
 use Rattle.sfm_weights.proofs.entry.weight.Goals.{else-value-ge1-via-then-value-ge1+else-value-le-MOST_WEIGHT, else-value-ge1-via-else-value-ge1}
 
