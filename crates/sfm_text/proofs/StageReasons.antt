@@ -20,21 +20,13 @@ use Rattle.sfm_lines.specs.Reading.{State, HasReason, HasPlain, FirstReason, Tak
 use Rattle.sfm_lines.specs.Weights.{IsPlainLine, IsWeightText}
 use Rattle.sfm_lines.specs.ReadParts.{state_at, IsLineOf}
 use Rattle.sfm_lines.proofs.Colons.{none-any}
+use Rattle.sfm_lines.proofs.TermReasons.{none-before}
 use Rattle.sfm_passes.proofs.Passed.{all-more}
 use Rattle.sfm_lines.proofs.WordLines.{not-end}
 
 -- none of the reasons below the k-th
 pub none-below : (s : State) (line : List ℕ) (k : ℕ) → (1 < k → HasReason s line Bytes → ⊥) → (2 < k → HasReason s line Word → ⊥) → (3 < k → HasReason s line Shape → ⊥) → (4 < k → HasReason s line Number → ⊥) → (5 < k → HasReason s line Name → ⊥) → (6 < k → HasReason s line Twice → ⊥) → (7 < k → HasReason s line Law → ⊥) → (8 < k → HasReason s line Total → ⊥) → (reason : Reason) → reason_order reason < k → HasReason s line reason → ⊥
-none-below s line k bytes word shape number name twice law total Long lt h = h
-none-below s line k bytes word shape number name twice law total Bytes lt h = bytes lt h
-none-below s line k bytes word shape number name twice law total Word lt h = word lt h
-none-below s line k bytes word shape number name twice law total Shape lt h = shape lt h
-none-below s line k bytes word shape number name twice law total Number lt h = number lt h
-none-below s line k bytes word shape number name twice law total Name lt h = name lt h
-none-below s line k bytes word shape number name twice law total Twice lt h = twice lt h
-none-below s line k bytes word shape number name twice law total Law lt h = law lt h
-none-below s line k bytes word shape number name twice law total Total lt h = total lt h
-none-below s line k bytes word shape number name twice law total Short lt h = h
+none-below s line k bytes word shape number name twice law total = none-before (HasReason s line) k (λ h. h) bytes word shape number name twice law total (λ h. h)
 
 order-below : (reason : Reason) → reason_order reason < 10
 order-below Long = omega arith
