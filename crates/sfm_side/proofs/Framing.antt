@@ -18,7 +18,7 @@ use Rattle.sfm_side.specs.Frame.{IsLineWith, IsInner, IsHeaderReason, IsLaterRea
 use Rattle.sfm_side.specs.declared.frame.Frame.{Frame}
 
 -- what is told of an error is told of a result with that error
-pub on-err : {A : Type 0} (P : TextEnd → Type 0) (result : Result A TextEnd) (end : TextEnd)
+on-err : {A : Type 0} (P : TextEnd → Type 0) (result : Result A TextEnd) (end : TextEnd)
     → IsErrAnd result (λ e. e ≡ end) → P end → IfErr result P
 on-err P (Ok a) end is p = tt
 on-err P (Err e) end is p = subst P (sym is) p
@@ -141,11 +141,11 @@ module _ {D : Type 0} (form : SideForm D) where
       good = (lines form.nothing, header-takes h.first.1 h.head, refl);
     }
 
-    pub open-refused : (end : TextEnd) → IsOpenRefusal form.word text end → IsRefusalIn L text end
-    open-refused Memory h = absurd h
-    open-refused (Refused number reason) (is_too_long at why long) = is_long at why long
-    open-refused (Refused number reason) (is_empty short none at why) = is_short at why short (header, rw none refl, λ (d, e). absurd (cc))
-    open-refused (Refused number reason) (is_header short line after content why) = is_faulty short (record {
+    open-faulty : (end : TextEnd) → IsOpenRefusal form.word text end → IsRefusalIn L text end
+    open-faulty Memory h = absurd h
+    open-faulty (Refused number reason) (is_too_long at why long) = is_long at why long
+    open-faulty (Refused number reason) (is_empty short none at why) = is_short at why short (header, rw none refl, λ (d, e). absurd (cc))
+    open-faulty (Refused number reason) (is_header short line after content why) = is_faulty short (record {
       before = [];
       line = line;
       after = after;
@@ -155,21 +155,33 @@ module _ {D : Type 0} (form : SideForm D) where
       fault = header-first line reason why;
     })
 
+    pub open-refused : {A : Type 0} (result : Result A TextEnd) (end : TextEnd)
+        → IsErrAnd result (λ e. e ≡ end) → IsOpenRefusal form.word text end
+        → IfErr result (IsRefusalIn L text)
+    open-refused result end is h = on-err (IsRefusalIn L text) result end is (open-faulty end h)
+
     module _ (framed : IsFramed form) (left : List (ℕ × List ℕ)) (d : D) (read : IsReadTo form text left d) where
-      left-faulty : (number : ℕ) (reason : Reason) → IsLeftFault text left number reason
+      -- the next line has this fault
+      next-faulty : (number : ℕ) (line : List ℕ) (after : List (ℕ × List ℕ)) (reason : Reason)
+          → left ≡ (number, line) ∷ after → IsFirstOf (HasSide form (lines d) line) reason
           → IsFaultIn L text number reason
-      left-faulty number reason (is_none none at why) =
-          let all : content_of text ≡ read.done = read.content ∙ (ap (λ (l : List (ℕ × List ℕ)). read.done ++ l) none ∙ append-nil read.done) in
-          is_short at why read.short (lines d, rw all read.good, λ (e, same). absurd (cc))
-      left-faulty number reason (is_next line after next why) = is_faulty read.short (record {
+      next-faulty number line after reason next first = is_faulty read.short (record {
         before = read.done;
         line = line;
         after = after;
         state = lines d;
         content = read.content ∙ ap (λ (l : List (ℕ × List ℕ)). read.done ++ l) next;
         good = read.good;
-        fault = later-first d line reason why;
+        fault = first;
       })
+
+      left-faulty : (number : ℕ) (reason : Reason) → IsLeftFault text left number reason
+          → IsFaultIn L text number reason
+      left-faulty number reason (is_none none at why) =
+          let all : content_of text ≡ read.done = read.content ∙ (ap (λ (l : List (ℕ × List ℕ)). read.done ++ l) none ∙ append-nil read.done) in
+          is_short at why read.short (lines d, rw all read.good, λ (e, same). absurd (cc))
+      left-faulty number reason (is_next line after next why) =
+          next-faulty number line after reason next (later-first d line reason why)
       left-faulty number reason (is_past last line after next is why) = is_faulty read.short (record {
         before = read.done ++ last ∷ [];
         line = line;
@@ -180,25 +192,23 @@ module _ {D : Type 0} (form : SideForm D) where
         fault = past-first d line reason why;
       })
 
-      -- what the frame refuses is refused
-      pub left-refused : (whole : List ℕ) (end : TextEnd) → whole ≡ text
+      left-end : (whole : List ℕ) (end : TextEnd) → whole ≡ text
           → IsLeftRefusal whole left end → IsRefusalIn L text end
-      left-refused whole Memory same h = absurd h
-      left-refused whole (Refused number reason) same h = left-faulty number reason (rw same at h)
+      left-end whole Memory same h = absurd h
+      left-end whole (Refused number reason) same h = left-faulty number reason (rw same at h)
+
+      -- what the frame refuses is refused
+      pub left-refused : {A : Type 0} (result : Result A TextEnd) (end : TextEnd)
+          → IsErrAnd result (λ e. e ≡ end) → (whole : List ℕ) → whole ≡ text
+          → IsLeftRefusal whole left end → IfErr result (IsRefusalIn L text)
+      left-refused result end is whole same h = on-err (IsRefusalIn L text) result end is (left-end whole end same h)
 
       -- what the form refuses is refused
       pub line-refused : (number : ℕ) (line : List ℕ) (after : List (ℕ × List ℕ)) (reason : Reason)
           → left ≡ (number, line) ∷ after → IsInner line
           → IsFirstOf (form.HasIn d (tokens_of line)) reason → IsFaultIn L text number reason
-      line-refused number line after reason next inner first = is_faulty read.short (record {
-        before = read.done;
-        line = line;
-        after = after;
-        state = lines d;
-        content = read.content ∙ ap (λ (l : List (ℕ × List ℕ)). read.done ++ l) next;
-        good = read.good;
-        fault = inner-first framed d line inner reason first;
-      })
+      line-refused number line after reason next inner first =
+          next-faulty number line after reason next (inner-first framed d line inner reason first)
 
       -- what the form takes is read
       pub line-read : (number : ℕ) (line : List ℕ) (after : List (ℕ × List ℕ)) (said : D)

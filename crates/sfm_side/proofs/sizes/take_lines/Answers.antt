@@ -1,12 +1,10 @@
 use Rattle.std.proofs.Common.{◌≡◌, ◌≤◌, List, length, map, ℤ, pos, sym, ap, subst, ◌∙◌, arith}
 use Rattle.std.proofs.lemmas.Int.{ints}
 use Rattle.sfm_spec.specs.Bounds.{total_of}
-use Rattle.sfm_text.specs.Language.{IsRefusalIn}
-use Rattle.sfm_side.specs.Side.{side_language}
 use Rattle.sfm_side.specs.Frame.{IsReadTo, left_of, text_in}
 use Rattle.sfm_side.specs.Sizes.{sizes_form}
 use Rattle.sfm_side.specs.SizeLines.{given_of, count_of, AreKept}
-use Rattle.sfm_side.proofs.Framing.{on-err, opened, open-refused, left-refused, line-refused, line-read, end-read}
+use Rattle.sfm_side.proofs.Framing.{opened, open-refused, left-refused, line-refused, line-read, end-read}
 use Rattle.sfm_side.proofs.Keeping.{counts-are, none-given, none-kept, none-total}
 use Rattle.sfm_side.proofs.SizeReasons.{sizes-framed, said-small}
 use Rattle.sfm_side.proofs.sizes.take_lines.Goals as goal
@@ -26,16 +24,14 @@ loop-line-init c =
 
 pub returns-in_err-frame-clause-refused : goal.returns-in_err-frame-clause-refused
 returns-in_err-frame-clause-refused c =
-    let form = sizes_form c.args.instance.now.names in
-    on-err (IsRefusalIn (side_language form) c.args.text.now) c.from_residual.result c.in_err-frame.field-0.0 c.from_residual.ensures.1
-    (open-refused form c.args.text.now c.in_err-frame.field-0.0 c.in_err-frame.ensures.refused)
+    open-refused (sizes_form c.args.instance.now.names) c.args.text.now c.from_residual.result c.in_err-frame.field-0.0 c.from_residual.ensures.1 c.in_err-frame.ensures.refused
 
 pub returns-in_err-line-clause-refused : goal.returns-in_err-line-clause-refused
 returns-in_err-line-clause-refused c =
     let names = c.args.instance.now.names in
     let frame = c.loop-line.frame in
-    on-err (IsRefusalIn (side_language (sizes_form names)) c.args.text.now) c.from_residual-in_err-line.result c.in_err-line.field-0.0 c.from_residual-in_err-line.ensures.1
-    (left-refused (sizes_form names) c.args.text.now (sizes-framed names) (left_of frame) (given_of c.loop-line.kept) c.loop-line.invariant.read (text_in frame) c.in_err-line.field-0.0 c.loop-line.invariant.whole c.in_err-line.ensures.next)
+    left-refused (sizes_form names) c.args.text.now (sizes-framed names) (left_of frame) (given_of c.loop-line.kept) c.loop-line.invariant.read
+    c.from_residual-in_err-line.result c.in_err-line.field-0.0 c.from_residual-in_err-line.ensures.1 (text_in frame) c.loop-line.invariant.whole c.in_err-line.ensures.next
 
 pub returns-in-Some-take_line-clause-refused : goal.returns-in-Some-take_line-clause-refused
 returns-in-Some-take_line-clause-refused c =
