@@ -22,50 +22,30 @@ counted c =
     let k = to_z_pos w128 c.size.result (omega (arith, c.size.type_inv)) in
     rw (k, c.size.ensures, c.requires.penalty) refl
 
-pub overflow_mul-result : goal.overflow_mul-result
-overflow_mul-result c =
+-- what is told fits its type
+fits : (c : goal.After-size) → let product = c.args.penalty *ℤ to_z w128 c.size.result in
+    FitsSigned w128 c.args.penalty × FitsSigned w128 c.args.found.value × FitsSigned w128 product × FitsSigned w128 (c.args.found.value +ℤ product)
+fits c =
     let k = known c in
-    let fm : FitsSigned w128 c.args.penalty = c.ranges.penalty in
     let e = counted c in
-    let fp : FitsSigned w128 (c.args.penalty *ℤ to_z w128 c.size.result)
-    = omega (arith, ints, e, k.product) in
-    simp to_z-of_z fp
+    (c.ranges.penalty, omega (arith, ints, k.before), omega (arith, ints, e, k.product), omega (arith, ints, e, k.value))
+
+pub overflow_mul-result : goal.overflow_mul-result
+overflow_mul-result c = let (fm, fv, fp, fs) = fits c in simp to_z-of_z fp
 
 pub overflow_add-result : goal.overflow_add-result
-overflow_add-result c =
-    let k = known c in
-    let fm : FitsSigned w128 c.args.penalty = c.ranges.penalty in
-    let fv : FitsSigned w128 c.args.found.value = omega (arith, ints, k.before) in
-    let e = counted c in
-    let fp : FitsSigned w128 (c.args.penalty *ℤ to_z w128 c.size.result)
-    = omega (arith, ints, e, k.product) in
-    let fs : FitsSigned w128 (c.args.found.value +ℤ (c.args.penalty *ℤ to_z w128 c.size.result))
-    = omega (arith, ints, e, k.value) in
-    simp to_z-of_z fs
+overflow_add-result c = let (fm, fv, fp, fs) = fits c in simp to_z-of_z fs
 
 pub returns-then-are_apart-clause-asked : goal.returns-then-are_apart-clause-asked
 returns-then-are_apart-clause-asked c =
-    let k = known c in
-    let fm : FitsSigned w128 c.args.penalty = c.ranges.penalty in
-    let fv : FitsSigned w128 c.args.found.value = omega (arith, ints, k.before) in
-    let e = counted c in
-    let fp : FitsSigned w128 (c.args.penalty *ℤ to_z w128 c.size.result)
-    = omega (arith, ints, e, k.product) in
-    let fs : FitsSigned w128 (c.args.found.value +ℤ (c.args.penalty *ℤ to_z w128 c.size.result))
-    = omega (arith, ints, e, k.value) in
-    simp to_z-of_z (rw e k.minimum)
+    let (fm, fv, fp, fs) = fits c in
+    simp to_z-of_z (rw (counted c) (known c).minimum)
 
 pub returns-then-are_apart-clause-writable : goal.returns-then-are_apart-clause-writable
 returns-then-are_apart-clause-writable c =
+    let (fm, fv, fp, fs) = fits c in
     let k = known c in
-    let fm : FitsSigned w128 c.args.penalty = c.ranges.penalty in
-    let fv : FitsSigned w128 c.args.found.value = omega (arith, ints, k.before) in
-    let e = counted c in
-    let fp : FitsSigned w128 (c.args.penalty *ℤ to_z w128 c.size.result)
-    = omega (arith, ints, e, k.product) in
-    let fs : FitsSigned w128 (c.args.found.value +ℤ (c.args.penalty *ℤ to_z w128 c.size.result))
-    = omega (arith, ints, e, k.value) in
-    simp to_z-of_z (rw e (k.minimum.low.pinned.places, k.minimum.high.pinned.places, k.value))
+    simp to_z-of_z (rw (counted c) (k.minimum.low.pinned.places, k.minimum.high.pinned.places, k.value))
 
 pub returns-clause-asked : goal.returns-clause-asked
 returns-clause-asked c =
