@@ -1,9 +1,7 @@
 use Rattle.std.proofs.Common.{ℕ, List, ◌++◌, refl, sym, ap, subst, ◌∙◌, arith}
 use Rattle.sfm_lines.specs.Lines.{tokens_of}
-use Rattle.sfm_text.specs.Language.{IsRefusalIn}
-use Rattle.sfm_side.specs.Side.{side_language}
 use Rattle.sfm_side.specs.Frame.{IsReadTo, left_of, text_in}
-use Rattle.sfm_side.proofs.Framing.{on-err, opened, open-refused, left-refused, line-refused, line-read, end-read}
+use Rattle.sfm_side.proofs.Framing.{opened, open-refused, left-refused, line-refused, line-read, end-read}
 use Rattle.sfm_edit.specs.Edits.{Editing, edits_form}
 use Rattle.sfm_edit.specs.EditLines.{editing_of}
 use Rattle.sfm_edit.specs.Origins.{AreOrigins}
@@ -25,16 +23,14 @@ loop-line-init c =
 
 pub returns-in_err-frame-clause-refused : goal.returns-in_err-frame-clause-refused
 returns-in_err-frame-clause-refused c =
-    let form = edits_form c.args.edited.now.instance in
-    on-err (IsRefusalIn (side_language form) c.args.text.now) c.from_residual.result c.in_err-frame.field-0.0 c.from_residual.ensures.1
-    (open-refused form c.args.text.now c.in_err-frame.field-0.0 c.in_err-frame.ensures.refused)
+    open-refused (edits_form c.args.edited.now.instance) c.args.text.now c.from_residual.result c.in_err-frame.field-0.0 c.from_residual.ensures.1 c.in_err-frame.ensures.refused
 
 pub returns-in_err-line-clause-refused : goal.returns-in_err-line-clause-refused
 returns-in_err-line-clause-refused c =
     let instance = c.args.edited.now.instance in
     let frame = c.loop-line.frame in
-    on-err (IsRefusalIn (side_language (edits_form instance)) c.args.text.now) c.from_residual-in_err-line.result c.in_err-line.field-0.0 c.from_residual-in_err-line.ensures.1
-    (left-refused (edits_form instance) c.args.text.now (edits-framed instance) (left_of frame) (editing_of c.loop-line.edited) c.loop-line.invariant.read (text_in frame) c.in_err-line.field-0.0 c.loop-line.invariant.whole c.in_err-line.ensures.next)
+    left-refused (edits_form instance) c.args.text.now (edits-framed instance) (left_of frame) (editing_of c.loop-line.edited) c.loop-line.invariant.read
+    c.from_residual-in_err-line.result c.in_err-line.field-0.0 c.from_residual-in_err-line.ensures.1 (text_in frame) c.loop-line.invariant.whole c.in_err-line.ensures.next
 
 pub take_line-requires : goal.take_line-requires
 take_line-requires c =
