@@ -141,25 +141,6 @@ fn rough_len(header: Header, instance: &Instance, solved: &Solved) -> usize
     len.saturating_add(64)
 }
 
-// The text of an answer with that first line, measured and then written into room for it.
-fn write_measured(
-    alloc: Global,
-    header: Header,
-    instance: &Instance,
-    solved: &Solved,
-) -> Result<Vec<u8>, Memory>
-    requires formed { IsFormed (form_with (header_text header) instance.now)
-        (answer_of solved.now) }
-    requires few { HasFewLines (answer_of solved.now) }
-    ensures { IfOk result (λ text. text.items ≡ answer_text
-        (form_with (header_text header) instance.now) (answer_of solved.now)) }
-{
-    let mut page = Page::new(alloc);
-    page.reserve(len_with(header, instance, solved))?;
-    put_with(&mut page, header, instance, solved);
-    Ok(page.into_vec())
-}
-
 /// The text of an answer with that first line.
 ///
 /// # Errors
@@ -185,7 +166,11 @@ pub fn write_with(
         }
     }
     drop(page);
-    write_measured(alloc, header, instance, solved)
+    // The text is measured, and then written into room for it.
+    let mut page = Page::new(alloc);
+    page.reserve(len_with(header, instance, solved))?;
+    put_with(&mut page, header, instance, solved);
+    Ok(page.into_vec())
 }
 
 /// The text of an answer, where each element counts one.
