@@ -1,5 +1,5 @@
-// What is left of demands or of capacities once the amounts on the cells are taken off. Of many demands few lack something, so these
-// are listed where they come to, and what goes over them does not look at the others.
+// What is left of demands or of capacities once the amounts on the cells are taken off. Of many demands few lack something. Each is
+// listed where it comes to lack something, so what goes over those that lack something does not look at the others.
 ghost use Rattle.std.specs.Prelude.{◌≡◌, ℕ, ◌<◌, length, slice_set, pos, ◌+ℤ◌, ◌-ℤ◌, ◌≤ℤ◌, ◌<ℤ◌, IfOk, OnOk, MatchOption};
 ghost use Rattle.sfm_cells.specs.{Splits.{sum_at, amount_at}, Cells.{label_at, AreCells, IsPart}, Left.{AreLeft, ListsLacking, CanPut}};
 
