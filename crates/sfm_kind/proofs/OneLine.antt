@@ -45,32 +45,20 @@ rank-known kind f is values s ks =
     (factor_of kind *ℤ r, e)
 
 -- a first base of it is a greedy vector, and the other way round
-greedy-of : (kind : Kind) (f : SetFunction) (q : ℤ) (x : List ℤ) → IsRankKind kind → IsStartOf kind f q x → IsGreedy q f (length (kind_places kind)) x
-greedy-of (Uniform term) f q x is h = h
-greedy-of (Laminar term) f q x is h = h
-greedy-of (Graphic term) f q x is h = h
-greedy-of (Transversal term) f q x is h = h
-greedy-of (Weight term) f q x is h = absurd is
-greedy-of (Cut term) f q x is h = absurd is
-greedy-of (Cover term) f q x is h = absurd is
-greedy-of (Need term) f q x is h = absurd is
-greedy-of (Table term) f q x is h = absurd is
-greedy-of (Concave term) f q x is h = absurd is
-
-of-greedy : (kind : Kind) (f : SetFunction) (q : ℤ) (x : List ℤ) → IsRankKind kind → IsGreedy q f (length (kind_places kind)) x → IsStartOf kind f q x
-of-greedy (Uniform term) f q x is h = h
-of-greedy (Laminar term) f q x is h = h
-of-greedy (Graphic term) f q x is h = h
-of-greedy (Transversal term) f q x is h = h
-of-greedy (Weight term) f q x is h = absurd is
-of-greedy (Cut term) f q x is h = absurd is
-of-greedy (Cover term) f q x is h = absurd is
-of-greedy (Need term) f q x is h = absurd is
-of-greedy (Table term) f q x is h = absurd is
-of-greedy (Concave term) f q x is h = absurd is
+greedy-alike : (kind : Kind) (f : SetFunction) (q : ℤ) (x : List ℤ) → IsRankKind kind → IsStartOf kind f q x ↔ IsGreedy q f (length (kind_places kind)) x
+greedy-alike (Uniform term) f q x is = (λ h. h, λ h. h)
+greedy-alike (Laminar term) f q x is = (λ h. h, λ h. h)
+greedy-alike (Graphic term) f q x is = (λ h. h, λ h. h)
+greedy-alike (Transversal term) f q x is = (λ h. h, λ h. h)
+greedy-alike (Weight term) f q x is = absurd is
+greedy-alike (Cut term) f q x is = absurd is
+greedy-alike (Cover term) f q x is = absurd is
+greedy-alike (Need term) f q x is = absurd is
+greedy-alike (Table term) f q x is = absurd is
+greedy-alike (Concave term) f q x is = absurd is
 
 rank-greedy : (kind : Kind) (q : ℤ) → IsRankKind kind → IsGreedy q (kind_value kind) (length (kind_places kind)) (kind_start kind q)
-rank-greedy kind q is = greedy-of kind (kind_value kind) q (kind_start kind q) is (kind-start kind (kind_value kind) q (kind-means kind).values)
+rank-greedy kind q is = (greedy-alike kind (kind_value kind) q (kind_start kind q) is).0 (kind-start kind (kind_value kind) q (kind-means kind).values)
 
 -- of two functions that agree there is one greedy vector
 greedy-one : (k : ℕ) (q : ℤ) (f g : SetFunction) (x y : List ℤ) → ((s : List Bool) → length s ≡ k → (a : ℤ) × (f s ≡ Some a)) → ((s : List Bool) → length s ≡ k → f s ≡ g s) → IsGreedy q f k x → IsGreedy q g k y → x ≡ y
@@ -90,7 +78,7 @@ module _ (s t : Kind) (ks : IsRankKind s) (kt : IsRankKind t) (places : kind_pla
       greedy-one (length (kind_places s)) q (kind_value s) (kind_value t) (kind_start s q) (kind_start t q) (rank-known s (kind_value s) ks (kind-means s).values) values (rank-greedy s q ks) there
 
   base-one : (f : SetFunction) (q : ℤ) (x : List ℤ) → IsStartOf s f q x → IsStartOf t f q x
-  base-one f q x h = of-greedy t f q x kt (subst (λ n. IsGreedy q f n x) (ap length places) (greedy-of s f q x ks h))
+  base-one f q x h = (greedy-alike t f q x kt).1 (subst (λ n. IsGreedy q f n x) (ap length places) ((greedy-alike s f q x ks).0 h))
 
   meaning-one : (meant : Meaning) → IsMeaningOf s meant → IsMeaningOf t meant
   meaning-one meant h = record {

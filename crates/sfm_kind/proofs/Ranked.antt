@@ -1,5 +1,5 @@
 -- What the four kinds of rank share: each is a matroid with ranks, and its values and its size are by these.
-use Rattle.std.proofs.Common.{◌≡◌, ℕ, Bool, List, length, refl, subst}
+use Rattle.std.proofs.Common.{◌≡◌, ◌↔◌, ℕ, Bool, List, length, refl, subst}
 use Rattle.sfm_spec.specs.Terms.{SetFunction}
 use Rattle.sfm_spec.specs.Kinds.{IsForest, IsMatchable}
 use Rattle.sfm_spec.specs.Laws.{ones}
@@ -52,29 +52,23 @@ kind-ranked (Table term) is = absurd is
 kind-ranked (Concave term) is = absurd is
 
 -- the values of a rank
+rank-values : (kind : Kind) (f : SetFunction) → IsRankKind kind → IsValueOf kind f ↔ IsWeightedRank (factor_of kind) (IsIndependentIn kind) (ones (length (kind_places kind))) f
+rank-values (Uniform term) f is = (λ h. h, λ h. h)
+rank-values (Laminar term) f is = (λ h. h, λ h. h)
+rank-values (Graphic term) f is = (λ h. h, λ h. h)
+rank-values (Transversal term) f is = (λ h. h, λ h. h)
+rank-values (Weight term) f is = absurd is
+rank-values (Cut term) f is = absurd is
+rank-values (Cover term) f is = absurd is
+rank-values (Need term) f is = absurd is
+rank-values (Table term) f is = absurd is
+rank-values (Concave term) f is = absurd is
+
 pub rank-valued : (kind : Kind) (f : SetFunction) → IsRankKind kind → IsValueOf kind f → IsWeightedRank (factor_of kind) (IsIndependentIn kind) (ones (length (kind_places kind))) f
-rank-valued (Uniform term) f is h = h
-rank-valued (Laminar term) f is h = h
-rank-valued (Graphic term) f is h = h
-rank-valued (Transversal term) f is h = h
-rank-valued (Weight term) f is h = absurd is
-rank-valued (Cut term) f is h = absurd is
-rank-valued (Cover term) f is h = absurd is
-rank-valued (Need term) f is h = absurd is
-rank-valued (Table term) f is h = absurd is
-rank-valued (Concave term) f is h = absurd is
+rank-valued kind f is = (rank-values kind f is).0
 
 pub valued-rank : (kind : Kind) (f : SetFunction) → IsRankKind kind → IsWeightedRank (factor_of kind) (IsIndependentIn kind) (ones (length (kind_places kind))) f → IsValueOf kind f
-valued-rank (Uniform term) f is h = h
-valued-rank (Laminar term) f is h = h
-valued-rank (Graphic term) f is h = h
-valued-rank (Transversal term) f is h = h
-valued-rank (Weight term) f is h = absurd is
-valued-rank (Cut term) f is h = absurd is
-valued-rank (Cover term) f is h = absurd is
-valued-rank (Need term) f is h = absurd is
-valued-rank (Table term) f is h = absurd is
-valued-rank (Concave term) f is h = absurd is
+valued-rank kind f is = (rank-values kind f is).1
 
 -- the size of a rank is its value of all
 pub rank-sized : (kind : Kind) (f : SetFunction) → IsRankKind kind → size_by kind f ≡ value_of_all (length (kind_places kind)) f

@@ -18,7 +18,8 @@ const MOST_TERMS: usize = 16384;
 
 const MOST_PLACES: usize = 16384;
 
-const MOST_SIZE: i128 = 1_000_000_000_000_000_000;
+/// The greatest size of all terms together, as a value that the terms may have: 10^18.
+pub const MOST_SIZE: i128 = 1_000_000_000_000_000_000;
 
 /// The names of the elements, in the order of the ground, and the terms, in the order in which they were added.
 ///

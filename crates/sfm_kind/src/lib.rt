@@ -8,7 +8,7 @@ mod layers;
 mod names;
 mod version;
 
-pub use instance::{Instance, terms_before, width};
+pub use instance::{Instance, MOST_SIZE, terms_before, width};
 pub use kind::{Kind, KindNote};
 pub use layers::{Layers, Weighed};
 pub use names::is_name;

@@ -20,9 +20,7 @@ numbered c =
     let levels = c.args.levels.now in
     let v = get_or levels c.args.j (pos 0) in
     let is = step-is c.args.weights.now levels c.args.j c.requires.weights c.requires.levels c.requires.within in
-    let fv : FitsSigned w128 v = omega (arith, ints, is.low, is.high) in
-    let fn : FitsSigned w128 (level_behind levels c.args.j) = omega (arith, ints, is.high, is.next_low, is.step_low) in
-    let fs : FitsSigned w128 (v -ℤ level_behind levels c.args.j) = omega (arith, ints, is.low, is.high, is.next_low, is.step_low) in
+    let (fv, fn, fs) = is.fits in
     let fr : FitsSigned w128 c.in_ok-rank.rank = search rules in
     let keep : c.in_ok-keep.keep ≡ at_least v c.args.weights.now = simp to_z-of_z at c.in_ok-keep.ensures in
     let over : IsRankOver c.args.self.now (at_least v c.args.weights.now) c.in_ok-rank.rank = rw keep at c.in_ok-rank.ensures in
@@ -31,28 +29,20 @@ numbered c =
 
 pub overflow_sub-step : goal.overflow_sub-step
 overflow_sub-step c =
-    let levels = c.args.levels.now in
-    let is = step-is c.args.weights.now levels c.args.j c.requires.weights c.requires.levels c.requires.within in
-    let fv : FitsSigned w128 (get_or levels c.args.j (pos 0)) = omega (arith, ints, is.low, is.high) in
-    let fn : FitsSigned w128 (level_behind levels c.args.j) = omega (arith, ints, is.high, is.next_low, is.step_low) in
+    let is = step-is c.args.weights.now c.args.levels.now c.args.j c.requires.weights c.requires.levels c.requires.within in
+    let (fv, fn, fs) = is.fits in
     rw c.next_level.ensures (simp to_z-of_z (omega (arith, ints, is.low, is.high, is.next_low, is.step_low)))
 
 pub layer_factor-requires-clause-low : goal.layer_factor-requires-clause-low
 layer_factor-requires-clause-low c =
-    let levels = c.args.levels.now in
-    let is = step-is c.args.weights.now levels c.args.j c.requires.weights c.requires.levels c.requires.within in
-    let fv : FitsSigned w128 (get_or levels c.args.j (pos 0)) = omega (arith, ints, is.low, is.high) in
-    let fn : FitsSigned w128 (level_behind levels c.args.j) = omega (arith, ints, is.high, is.next_low, is.step_low) in
-    let fs : FitsSigned w128 (get_or levels c.args.j (pos 0) -ℤ level_behind levels c.args.j) = omega (arith, ints, is.low, is.high, is.next_low, is.step_low) in
+    let is = step-is c.args.weights.now c.args.levels.now c.args.j c.requires.weights c.requires.levels c.requires.within in
+    let (fv, fn, fs) = is.fits in
     rw c.next_level.ensures (simp to_z-of_z (omega (arith, ints, is.step_low)))
 
 pub layer_factor-requires-clause-high : goal.layer_factor-requires-clause-high
 layer_factor-requires-clause-high c =
-    let levels = c.args.levels.now in
-    let is = step-is c.args.weights.now levels c.args.j c.requires.weights c.requires.levels c.requires.within in
-    let fv : FitsSigned w128 (get_or levels c.args.j (pos 0)) = omega (arith, ints, is.low, is.high) in
-    let fn : FitsSigned w128 (level_behind levels c.args.j) = omega (arith, ints, is.high, is.next_low, is.step_low) in
-    let fs : FitsSigned w128 (get_or levels c.args.j (pos 0) -ℤ level_behind levels c.args.j) = omega (arith, ints, is.low, is.high, is.next_low, is.step_low) in
+    let is = step-is c.args.weights.now c.args.levels.now c.args.j c.requires.weights c.requires.levels c.requires.within in
+    let (fv, fn, fs) = is.fits in
     rw c.next_level.ensures (simp to_z-of_z (omega (arith, ints, is.high, is.next_low)))
 
 pub restricted-requires-clause-some : goal.restricted-requires-clause-some
@@ -60,7 +50,7 @@ restricted-requires-clause-some c =
     let levels = c.args.levels.now in
     let v = get_or levels c.args.j (pos 0) in
     let is = step-is c.args.weights.now levels c.args.j c.requires.weights c.requires.levels c.requires.within in
-    let fv : FitsSigned w128 v = omega (arith, ints, is.low, is.high) in
+    let (fv, fn, fs) = is.fits in
     let keep : c.in_ok-keep.keep ≡ at_least v c.args.weights.now = simp to_z-of_z at c.in_ok-keep.ensures in
     rw keep (level-kept c.args.weights.now v is.level)
 
@@ -82,7 +72,7 @@ returns c =
     let levels = c.args.levels.now in
     let v = get_or levels c.args.j (pos 0) in
     let is = step-is c.args.weights.now levels c.args.j c.requires.weights c.requires.levels c.requires.within in
-    let fv : FitsSigned w128 v = omega (arith, ints, is.low, is.high) in
+    let (fv, fn, fs) = is.fits in
     let fw : FitsSigned w128 c.layer_factor.result = record { sfits = c.layer_factor.type_inv } in
     let keep : c.in_ok-keep.keep ≡ at_least v c.args.weights.now = simp to_z-of_z at c.in_ok-keep.ensures in
     let part : IfOk c.restricted.result (λ r. IsKeptPart c.args.self.now (at_least v c.args.weights.now) c.layer_factor.result r) = simp to_z-of_z at (rw keep at c.restricted.ensures) in

@@ -18,26 +18,21 @@ numbers c =
     let levels = c.args.levels.now in
     let v = get_or levels c.args.j (pos 0) in
     let is = step-is c.args.weights.now levels c.args.j c.requires.weights c.requires.levels c.requires.within in
-    let fv : FitsSigned w128 v = omega (arith, ints, is.low, is.high) in
+    let (fv, fn, fs) = is.fits in
     let keep : c.in_ok-keep.keep ≡ at_least v c.args.weights.now = simp to_z-of_z at c.in_ok-keep.ensures in
     let over : IsRankOver c.args.self.now (at_least v c.args.weights.now) c.in_ok-rank.rank = rw keep at c.in_ok-rank.ensures in
     (keep, over, rw c.factor.ensures.factor (level-factors c.args.self.now c.args.weights.now levels c.args.j c.in_ok-rank.rank c.requires.each c.requires.weights c.requires.levels c.requires.within over))
 
 pub overflow_sub-step : goal.overflow_sub-step
 overflow_sub-step c =
-    let levels = c.args.levels.now in
-    let is = step-is c.args.weights.now levels c.args.j c.requires.weights c.requires.levels c.requires.within in
-    let fv : FitsSigned w128 (get_or levels c.args.j (pos 0)) = omega (arith, ints, is.low, is.high) in
-    let fn : FitsSigned w128 (level_behind levels c.args.j) = omega (arith, ints, is.high, is.next_low, is.step_low) in
+    let is = step-is c.args.weights.now c.args.levels.now c.args.j c.requires.weights c.requires.levels c.requires.within in
+    let (fv, fn, fs) = is.fits in
     rw c.next_level.ensures (simp to_z-of_z (omega (arith, ints, is.low, is.high, is.next_low, is.step_low)))
 
 pub overflow_mul-each : goal.overflow_mul-each
 overflow_mul-each c =
-    let levels = c.args.levels.now in
-    let is = step-is c.args.weights.now levels c.args.j c.requires.weights c.requires.levels c.requires.within in
-    let fv : FitsSigned w128 (get_or levels c.args.j (pos 0)) = omega (arith, ints, is.low, is.high) in
-    let fn : FitsSigned w128 (level_behind levels c.args.j) = omega (arith, ints, is.high, is.next_low, is.step_low) in
-    let fs : FitsSigned w128 (get_or levels c.args.j (pos 0) -ℤ level_behind levels c.args.j) = omega (arith, ints, is.low, is.high, is.next_low, is.step_low) in
+    let is = step-is c.args.weights.now c.args.levels.now c.args.j c.requires.weights c.requires.levels c.requires.within in
+    let (fv, fn, fs) = is.fits in
     let fw : FitsSigned w128 c.factor.result = given_fits _ c.factor.ensures.given in
     let n = (numbers (goal.at.overflow_mul-each c).After-factor).2 in
     rw c.next_level.ensures (simp to_z-of_z (omega (arith, ints, n.each_low, n.each_high)))
@@ -46,9 +41,7 @@ pub overflow_mul-result : goal.overflow_mul-result
 overflow_mul-result c =
     let levels = c.args.levels.now in
     let is = step-is c.args.weights.now levels c.args.j c.requires.weights c.requires.levels c.requires.within in
-    let fv : FitsSigned w128 (get_or levels c.args.j (pos 0)) = omega (arith, ints, is.low, is.high) in
-    let fn : FitsSigned w128 (level_behind levels c.args.j) = omega (arith, ints, is.high, is.next_low, is.step_low) in
-    let fs : FitsSigned w128 (get_or levels c.args.j (pos 0) -ℤ level_behind levels c.args.j) = omega (arith, ints, is.low, is.high, is.next_low, is.step_low) in
+    let (fv, fn, fs) = is.fits in
     let fw : FitsSigned w128 c.factor.result = given_fits _ c.factor.ensures.given in
     let n = (numbers (goal.at.overflow_mul-result c).After-factor).2 in
     let fe : FitsSigned w128 (c.factor.result *ℤ (get_or levels c.args.j (pos 0) -ℤ level_behind levels c.args.j)) = omega (arith, ints, n.each_low, n.each_high) in
@@ -62,9 +55,7 @@ returns c =
     let next = level_behind levels c.args.j in
     let r = c.in_ok-rank.rank in
     let is = step-is c.args.weights.now levels c.args.j c.requires.weights c.requires.levels c.requires.within in
-    let fv : FitsSigned w128 v = omega (arith, ints, is.low, is.high) in
-    let fn : FitsSigned w128 next = omega (arith, ints, is.high, is.next_low, is.step_low) in
-    let fs : FitsSigned w128 (v -ℤ next) = omega (arith, ints, is.low, is.high, is.next_low, is.step_low) in
+    let (fv, fn, fs) = is.fits in
     let fw : FitsSigned w128 c.factor.result = given_fits _ c.factor.ensures.given in
     let (keep, over, n) = numbers (goal.at.returns c).After-factor in
     let fe : FitsSigned w128 (c.factor.result *ℤ (v -ℤ next)) = omega (arith, ints, n.each_low, n.each_high) in
