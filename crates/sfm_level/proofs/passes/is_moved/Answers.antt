@@ -10,38 +10,36 @@ use Rattle.sfm_level.specs.Sums.{sums_of}
 use Rattle.sfm_level.proofs.Chains.{below_more, none_rises}
 use Rattle.sfm_level.proofs.Kept.{sums-kept, sums-near}
 use Rattle.sfm_level.proofs.Values.{get_or-first_values, length-first_values}
+use Rattle.sfm_level.proofs.passes.is_moved.Given as given
 use Rattle.sfm_level.proofs.passes.is_moved.Goals as goal
-use Rattle.sfm_level.proofs.passes.is_moved.Goals.{then-branch, else-branch}
+use Rattle.sfm_level.proofs.passes.is_moved.Goals.{In-loop-a, then-branch, else-branch}
+
+-- the numbers that are looked at are the sums of the bases
+are_sums : (g : given.Over) (c : In-loop-a g) → let t = g.T.Term in
+    c.deref-a-items.result.now ≡ sums_of (meanings t.places t.value_of c.args.terms.now) c.args.n c.args.graph.now.bases
+are_sums g c = c.deref-a-items.ensures.value ∙ (c.in_ok-z.ensures.items ∙ (c.deref.ensures.value ∙ sums-kept c.requires))
+
+-- so each is small
+small : (g : given.Over) (c : In-loop-a g)
+    → IsAtMost (10 ^ 15) (get_or c.deref-a-items.result.now c.loop-a.a-index (pos 0))
+small g c =
+    let is = are_sums g c in
+    All-get_or (IsAtMost (10 ^ 15)) c.deref-a-items.result.now c.loop-a.a-index (pos 0) c.loop-a-test.true
+    (rw is (sums-near c.requires))
 
 pub overflow_add-a : goal.overflow_add-a
 overflow_add-a g c =
-    let t = g.T.Term in
-    let k = c.loop-a.a-index in
-    let z = c.deref-a-items.result.now in
-    let is = c.deref-a-items.ensures.value ∙ (c.in_ok-z.ensures.items ∙ (c.deref.ensures.value ∙ sums-kept c.requires)) in
-    let a = get_or z k (pos 0) in
-    let small : IsAtMost (10 ^ 15) a
-    = All-get_or (IsAtMost (10 ^ 15)) z k (pos 0) c.loop-a-test.true
-    (rw is (sums-near c.requires)) in
-    let fa : FitsSigned w128 a = omega (arith, ints, small.low, small.high) in
-    simp to_z-of_z (omega (arith, ints, small.low, small.high))
+    let s = small g (goal.at.overflow_add-a g c).In-loop-a in
+    let fa : FitsSigned w128 (get_or c.deref-a-items.result.now c.loop-a.a-index (pos 0)) = omega (arith, ints, s.low, s.high) in
+    simp to_z-of_z (omega (arith, ints, s.low, s.high))
 
 pub prove_at-requires-clause-slope : goal.prove_at-requires-clause-slope
 prove_at-requires-clause-slope g c =
-    let t = g.T.Term in
-    let k = c.loop-a.a-index in
-    let z = c.deref-a-items.result.now in
-    let is = c.deref-a-items.ensures.value ∙ (c.in_ok-z.ensures.items ∙ (c.deref.ensures.value ∙ sums-kept c.requires)) in
-    let a = get_or z k (pos 0) in
-    let small : IsAtMost (10 ^ 15) a
-    = All-get_or (IsAtMost (10 ^ 15)) z k (pos 0) c.loop-a-test.true
-    (rw is (sums-near c.requires)) in
-    let fa : FitsSigned w128 a = omega (arith, ints, small.low, small.high) in
-    let ft : FitsSigned w128 (a +ℤ pos 1) = omega (arith, ints, small.low, small.high) in
-    simp to_z-of_z (record {
-      low = omega (arith, ints, small.low);
-      high = omega (arith, ints, small.high);
-    })
+    let a = get_or c.deref-a-items.result.now c.loop-a.a-index (pos 0) in
+    let s = small g (goal.at.prove_at-requires-clause-slope g c).In-loop-a in
+    let fa : FitsSigned w128 a = omega (arith, ints, s.low, s.high) in
+    let ft : FitsSigned w128 (a +ℤ pos 1) = omega (arith, ints, s.low, s.high) in
+    simp to_z-of_z (record { low = omega (arith, ints, s.low); high = omega (arith, ints, s.high) })
 
 pub loop-a-preserved : goal.loop-a-preserved
 loop-a-preserved g c =
@@ -52,13 +50,12 @@ loop-a-preserved g c =
     let f = base_sum_at ts before in
     let k = c.loop-a.a-index in
     let z = c.deref-a-items.result.now in
-    let is : z ≡ sums_of ts n before = c.deref-a-items.ensures.value ∙ (c.in_ok-z.ensures.items ∙ (c.deref.ensures.value ∙ sums-kept c.requires)) in
+    let at = (goal.at.loop-a-preserved g c).In-loop-a in
+    let is : z ≡ sums_of ts n before = are_sums g at in
     let a = get_or z k (pos 0) in
-    let small : IsAtMost (10 ^ 15) a
-    = All-get_or (IsAtMost (10 ^ 15)) z k (pos 0) c.loop-a-test.true
-    (rw is (sums-near c.requires)) in
-    let fa : FitsSigned w128 a = omega (arith, ints, small.low, small.high) in
-    let ft : FitsSigned w128 (a +ℤ pos 1) = omega (arith, ints, small.low, small.high) in
+    let s = small g at in
+    let fa : FitsSigned w128 a = omega (arith, ints, s.low, s.high) in
+    let ft : FitsSigned w128 (a +ℤ pos 1) = omega (arith, ints, s.low, s.high) in
     let here : k < n
     = rw (ap length is, length-first_values n f) at c.loop-a-test.true in
     let sum : a ≡ f k = ap (λ y. get_or y k (pos 0)) is ∙ get_or-first_values n f k here in
