@@ -136,7 +136,8 @@ module _ (m : ℤ) where
   keeps-free (is_in ∷ inside) (false ∷ outside) (true ∷ s) k =
       let r = keeps-free inside outside s (keeps-tail is_in false true inside outside s k) in
       omega (arith, ints, r)
-  keeps-free (true ∷ inside) (is_out ∷ outside) (false ∷ s) k = (let no : false ≡ true = k.has 0 refl in cc)
+  keeps-free (true ∷ inside) (is_out ∷ outside) (false ∷ s) k =
+      (let no : false ≡ true = k.has 0 refl in cc)
   keeps-free (false ∷ inside) (is_out ∷ outside) (false ∷ s) k =
       let r = keeps-free inside outside s (keeps-tail false is_out false inside outside s k) in
       omega (arith, ints, r)

@@ -20,8 +20,10 @@ name-more old before pushed after so_far name all here space named more =
     ∙ (append_assoc old so_far (32 ∷ name) ∙ ap (λ x. old ++ x) (sym more))))
 
 -- the extreme sets of a minimum
-are_pinned : (terms : List Meaning) (n : ℕ) (inside outside : List Bool) (value : ℤ) (least greatest : List Bool)
-    → IsPinnedMinimum terms n inside outside value least greatest → ArePinned terms n inside outside least greatest
+are_pinned : (terms : List Meaning) (n : ℕ) (inside outside : List Bool) (value : ℤ)
+    (least greatest : List Bool)
+    → IsPinnedMinimum terms n inside outside value least greatest
+    → ArePinned terms n inside outside least greatest
 are_pinned terms n inside outside value least greatest h = record {
   low = h.low.pinned;
   high = h.high.pinned;
@@ -31,7 +33,10 @@ are_pinned terms n inside outside value least greatest h = record {
       let b = h.high.least least h.low.pinned in
       omega (arith, ints, a, b);
   between = λ t p e.
-      h.between t (record { pinned = p; least = λ u q. let a = h.low.least u q in omega (arith, ints, a, e) });
+      h.between t (record {
+        pinned = p;
+        least = λ u q. let a = h.low.least u q in omega (arith, ints, a, e);
+      });
 }
 
 -- what is told of pins, written, is the text that is due
@@ -42,8 +47,10 @@ answered names meant pins (Best best) written told text =
     inr (
       best.least,
       best.greatest,
-      are_pinned meant (length names) pins.inside pins.outside best.value best.least best.greatest told,
-      text ∙ ap (λ v. text_of (codes "pinned 1" ∷ (codes "minimum " ++ signed_decimal v) ∷ (codes "least" ++ listed names best.least)
+      are_pinned meant (length names) pins.inside pins.outside best.value best.least best.greatest
+          told,
+      text ∙ ap (λ v. text_of (codes "pinned 1" ∷ (codes "minimum " ++ signed_decimal v)
+          ∷ (codes "least" ++ listed names best.least)
           ∷ (codes "greatest" ++ listed names best.greatest) ∷ codes "end" ∷ [])) told.value_is,
     )
 answered names meant pins Nothing written told text = inl (told, text)

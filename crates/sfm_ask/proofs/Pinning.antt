@@ -1,5 +1,6 @@
--- Where the penalty exceeds every difference of two values, the minimisers with the shift of pins are those among the sets that
--- keep all pins, if there is such a set; and the least minimiser tells whether there is.
+-- Where the penalty exceeds every difference of two values, the minimisers with the shift of pins
+-- are those among the sets that keep all pins, if there is such a set; and the least minimiser
+-- tells whether there is.
 use Rattle.std.proofs.Common.{◌≡◌, ◌⊎◌, ℕ, Bool, List, length, ℤ, pos, ◌+ℤ◌, ◌-ℤ◌, ◌<ℤ◌, inl, inr, ⊎_elim, sym, ◌∙◌, arith}
 use Rattle.std.proofs.lemmas.Int.{ints}
 use Rattle.sfm_spec.specs.Families.{Meaning, IsAllowed, IsMinimiser, IsLeast, IsGreatest, shifted_at, sum_at}

@@ -1,4 +1,5 @@
--- What the extreme minimisers with the shift of pins tell of an instance, and that all numbers on the way are small.
+-- What the extreme minimisers with the shift of pins tell of an instance, and that all numbers on
+-- the way are small.
 use Rattle.std.proofs.Common.{◌≡◌, ◌^◌, Bool, List, length, ℤ, pos, ◌+ℤ◌, ◌*ℤ◌, arith}
 use Rattle.std.proofs.lemmas.Int.{ints}
 use Rattle.sfm_spec.specs.Sets.{size}
@@ -76,7 +77,8 @@ module _ (instance : InstanceData) (inside outside : List Bool) (found : Proved)
           high = omega (arith, ints, w, v, b, size, e);
         };
         minimum = pinned-minimum meant (length instance.names) inside outside m same_in same_out
-            (less-than-penalty instance) found.least found.greatest (told_value instance inside found)
+            (less-than-penalty instance) found.least found.greatest
+            (told_value instance inside found)
             h.least h.greatest keeps (omega (arith, ints, v, e));
       }
 

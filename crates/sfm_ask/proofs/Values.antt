@@ -1,5 +1,5 @@
--- Values of a sum lie within the sizes of its terms together, so any two differ by less than the penalty; and with that penalty no
--- number on the way is great.
+-- Values of a sum lie within the sizes of its terms together, so any two differ by less than the
+-- penalty; and with that penalty no number on the way is great.
 use Rattle.std.proofs.Common.{◌≡◌, ℕ, zero, suc, ◌+◌, ◌*◌, ◌<◌, ◌≤◌, ◌^◌, Bool, true, false, List, [], ◌∷◌, length, get_or, nat_abs, FitsSigned, ℤ, pos, negsuc, neg_ℤ, ◌+ℤ◌, ◌-ℤ◌, ◌*ℤ◌, ◌≤ℤ◌, ◌<ℤ◌, refl, arith}
 use Rattle.std.proofs.lemmas.Int.{ints}
 use Rattle.std.proofs.lemmas.List.{length-map}
@@ -56,23 +56,24 @@ penalty-small n instance bounded =
 
 shift-one : (m : ℤ) → IsPenalty m → (is_in is_out : Bool)
     → pos (nat_abs (shift_for m is_in is_out)) ≤ℤ pos (3 * 10 ^ 18)
-shift-one m h is_in is_out = abs-within (shift_for m is_in is_out) (low is_in is_out) (high is_in is_out) where
-  abs-within : (z : ℤ) → neg_ℤ (pos (3 * 10 ^ 18)) ≤ℤ z → z ≤ℤ pos (3 * 10 ^ 18)
-      → pos (nat_abs z) ≤ℤ pos (3 * 10 ^ 18)
-  abs-within (pos n) low high = high
-  abs-within (negsuc n) low high = omega (arith, ints, low)
+shift-one m h is_in is_out = abs-within (shift_for m is_in is_out) (low is_in is_out)
+    (high is_in is_out) where
+      abs-within : (z : ℤ) → neg_ℤ (pos (3 * 10 ^ 18)) ≤ℤ z → z ≤ℤ pos (3 * 10 ^ 18)
+          → pos (nat_abs z) ≤ℤ pos (3 * 10 ^ 18)
+      abs-within (pos n) low high = high
+      abs-within (negsuc n) low high = omega (arith, ints, low)
 
-  low : (is_in is_out : Bool) → neg_ℤ (pos (3 * 10 ^ 18)) ≤ℤ shift_for m is_in is_out
-  low true true = omega (arith, ints, h.low, h.high)
-  low true false = omega (arith, ints, h.low, h.high)
-  low false true = omega (arith, ints, h.low, h.high)
-  low false false = omega (arith, ints, h.low, h.high)
+      low : (is_in is_out : Bool) → neg_ℤ (pos (3 * 10 ^ 18)) ≤ℤ shift_for m is_in is_out
+      low true true = omega (arith, ints, h.low, h.high)
+      low true false = omega (arith, ints, h.low, h.high)
+      low false true = omega (arith, ints, h.low, h.high)
+      low false false = omega (arith, ints, h.low, h.high)
 
-  high : (is_in is_out : Bool) → shift_for m is_in is_out ≤ℤ pos (3 * 10 ^ 18)
-  high true true = omega (arith, ints, h.low, h.high)
-  high true false = omega (arith, ints, h.low, h.high)
-  high false true = omega (arith, ints, h.low, h.high)
-  high false false = omega (arith, ints, h.low, h.high)
+      high : (is_in is_out : Bool) → shift_for m is_in is_out ≤ℤ pos (3 * 10 ^ 18)
+      high true true = omega (arith, ints, h.low, h.high)
+      high true false = omega (arith, ints, h.low, h.high)
+      high false true = omega (arith, ints, h.low, h.high)
+      high false false = omega (arith, ints, h.low, h.high)
 
 -- the magnitudes of the shift add to at most so much for each element
 shift-magnitudes : (m : ℤ) → IsPenalty m → (inside outside : List Bool)

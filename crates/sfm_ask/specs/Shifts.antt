@@ -1,5 +1,5 @@
--- The shift that stands for pins: a set has a penalty less for each element that it must have and has, and a penalty more for
--- each that it must not have and has.
+-- The shift that stands for pins: a set has a penalty less for each element that it must have and
+-- has, and a penalty more for each that it must not have and has.
 use Rattle.std.specs.Prelude.{Bool, List, [], ◌∷◌, ℤ, pos, ◌-ℤ◌, if◌then◌else◌}
 
 -- the shift of an element that must be in, or out, or both, or neither

@@ -18,8 +18,10 @@ abs-at_most m (pos n) h = omega (arith, ints, h.high)
 abs-at_most m (negsuc n) h = omega (arith, ints, h.low)
 
 pub at_most_from_abs : (m : ℕ) (a : ℤ) → nat_abs a ≤ m → IsAtMost m a
-at_most_from_abs m (pos n) h = record { low = omega (arith, ints, h); high = omega (arith, ints, h) }
-at_most_from_abs m (negsuc n) h = record { low = omega (arith, ints, h); high = omega (arith, ints, h) }
+at_most_from_abs m (pos n) h =
+    record { low = omega (arith, ints, h); high = omega (arith, ints, h) }
+at_most_from_abs m (negsuc n) h =
+    record { low = omega (arith, ints, h); high = omega (arith, ints, h) }
 
 -- ---- exact quotients
 
@@ -45,27 +47,32 @@ quotient_positive g (negsuc n) q e h = absurd (omega (arith, ints, e, h))
 abs-multiple : (g : ℕ) (x p : ℤ) → (pos g *ℤ x) ≡ p → nat_abs p ≡ g * nat_abs x
 abs-multiple g x p e = sym (ap nat_abs e) ∙ unsigned_abs-mul (pos g) x
 
-pub divides_multiple : (g c : ℕ) (a x p : ℤ) → (pos g *ℤ x) ≡ p → (pos c *ℤ a) ≡ x → (g * c) ∣ nat_abs p
+pub divides_multiple : (g c : ℕ) (a x p : ℤ) → (pos g *ℤ x) ≡ p → (pos c *ℤ a) ≡ x
+    → (g * c) ∣ nat_abs p
 divides_multiple g c a x p e f =
     let k : nat_abs p ≡ (g * c) * nat_abs a
-    = abs-multiple g x p e ∙ ap (λ m. g * m) (abs-multiple c a x f) ∙ sym (mul_assoc g c (nat_abs a)) in
+    = abs-multiple g x p e ∙ ap (λ m. g * m) (abs-multiple c a x f)
+    ∙ sym (mul_assoc g c (nat_abs a)) in
     subst (λ (m : ℕ). (g * c) ∣ m) (sym k) (dvd-mul_right (g * c) (nat_abs a))
 
 one_from_le : (g c : ℕ) → 0 < g → g * c ≤ g → 0 < c → c ≡ 1
 one_from_le g zero some h k = absurd (omega arith)
 one_from_le g (suc zero) some h k = refl
-one_from_le g (suc (suc c)) some h k = absurd (omega (arith, mul-le-mul_left {m = 2} {n = suc (suc c)} g (omega arith)))
+one_from_le g (suc (suc c)) some h k =
+    absurd (omega (arith, mul-le-mul_left {m = 2} {n = suc (suc c)} g (omega arith)))
 
 some_factor : (c : ℕ) (b y : ℤ) → (pos c *ℤ b) ≡ y → pos 1 ≤ℤ y → 0 < c
 some_factor zero b y e h = absurd (omega (arith, ints, e, h))
 some_factor (suc c) b y e h = omega arith
 
-pub lowest_by_gcd : (g : ℕ) (x y p q : ℤ) → 0 < g → IsGcd (nat_abs p) (nat_abs q) g → (pos g *ℤ x) ≡ p → (pos g *ℤ y) ≡ q → pos 1 ≤ℤ q → IsLowest x y
+pub lowest_by_gcd : (g : ℕ) (x y p q : ℤ) → 0 < g → IsGcd (nat_abs p) (nat_abs q) g
+    → (pos g *ℤ x) ≡ p → (pos g *ℤ y) ≡ q → pos 1 ≤ℤ q → IsLowest x y
 lowest_by_gcd g x y p q some h e f low = record {
   positive = quotient_positive g y q f low;
   prime = λ c a b k l.
       one_from_le g c some
-      (le_of_dvd some (h.2 (g * c) (divides_multiple g c a x p e k) (divides_multiple g c b y q f l)))
+      (le_of_dvd some (h.2 (g * c) (divides_multiple g c a x p e k)
+      (divides_multiple g c b y q f l)))
       (some_factor c b y l (quotient_positive g y q f low));
 }
 
@@ -88,7 +95,8 @@ cross g (pos n) (pos m) h = ap pos (omega arith)
 cross g (negsuc n) (pos m) h = neg_times (g * suc n) m ∙ ap (λ k. neg_ℤ (pos k)) (omega arith)
 cross g x (negsuc m) h = absurd (omega (arith, ints, h))
 
-pub same_slope : (g : ℕ) (x y p q : ℤ) → (pos g *ℤ x) ≡ p → (pos g *ℤ y) ≡ q → pos 1 ≤ℤ q → IsSameSlope p q x y
+pub same_slope : (g : ℕ) (x y p q : ℤ) → (pos g *ℤ x) ≡ p → (pos g *ℤ y) ≡ q → pos 1 ≤ℤ q
+    → IsSameSlope p q x y
 same_slope g x y p q e f low =
     ap (λ z. z *ℤ y) (sym e) ∙ cross g x y (quotient_positive g y q f low) ∙ ap (λ z. x *ℤ z) f
 
@@ -100,8 +108,17 @@ pub record IsDivisor (p q : ℤ) (g : ℕ) : Type 0 where
   pub some : 0 < g
   pub small : g ≤ 10 ^ 6
 
-pub divisor_by_gcd : (p q : ℤ) (g : ℕ) → IsFactor q → IsGcd (nat_abs p) (nat_abs q) g → IsDivisor p q g
-divisor_by_gcd p q g f h = record { gcd = h; some = not_zero g (nat_abs q) (some_of q f.low) h.1; small = omega (arith, le_of_dvd (some_of q f.low) h.1, abs-at_most (10 ^ 6) q (record { low = omega (arith, ints, f.low); high = f.high })) } where
+pub divisor_by_gcd : (p q : ℤ) (g : ℕ) → IsFactor q → IsGcd (nat_abs p) (nat_abs q) g
+    → IsDivisor p q g
+divisor_by_gcd p q g f h = record {
+  gcd = h;
+  some = not_zero g (nat_abs q) (some_of q f.low) h.1;
+  small = omega (
+    arith,
+    le_of_dvd (some_of q f.low) h.1,
+    abs-at_most (10 ^ 6) q (record { low = omega (arith, ints, f.low); high = f.high }),
+  );
+} where
   some_of : (q : ℤ) → pos 1 ≤ℤ q → 0 < nat_abs q
   some_of (pos n) l = omega (arith, ints, l)
   some_of (negsuc n) l = omega arith
@@ -111,11 +128,14 @@ divisor_by_gcd p q g f h = record { gcd = h; some = not_zero g (nat_abs q) (some
   not_zero (suc g) m l d = omega arith
 
 pub entry_divided : (p q x : ℤ) (g : ℕ) → IsDivisor p q g → (pos g *ℤ x) ≡ p → IsEntry p → IsEntry x
-entry_divided p q x g d e h = at_most_from_abs (10 ^ 30) x (omega (arith, abs-quotient-le g x p d.some e, abs-at_most (10 ^ 30) p h))
+entry_divided p q x g d e h = at_most_from_abs (10 ^ 30) x
+    (omega (arith, abs-quotient-le g x p d.some e, abs-at_most (10 ^ 30) p h))
 
-pub factor_divided : (p q y : ℤ) (g : ℕ) → IsDivisor p q g → (pos g *ℤ y) ≡ q → IsFactor q → IsFactor y
+pub factor_divided : (p q y : ℤ) (g : ℕ) → IsDivisor p q g → (pos g *ℤ y) ≡ q → IsFactor q
+    → IsFactor y
 factor_divided p q y g d e h =
-    let a : nat_abs q ≤ 10 ^ 6 = abs-at_most (10 ^ 6) q (record { low = omega (arith, ints, h.low); high = h.high }) in
+    let a : nat_abs q ≤ 10 ^ 6 = abs-at_most (10 ^ 6) q
+    (record { low = omega (arith, ints, h.low); high = h.high }) in
     record {
       low = quotient_positive g y q e h.low;
       high = (at_most_from_abs (10 ^ 6) y (omega (arith, abs-quotient-le g y q d.some e, a))).high;
@@ -132,6 +152,18 @@ pub record Compares (x y : ℤ) (r : Ordering) : Type 0 where
 pub compared : (x y : ℤ) (r : Ordering) → r ≡ int_cmp x y → Compares x y r
 compared x y r e = at r (int_ranked x y r e) where
   at : (r : Ordering) → MatchOrdering r (x <ℤ y) (x ≡ y) (y <ℤ x) → Compares x y r
-  at Less h = record { less = (λ _. h, λ _. refl); equal = (λ k. cc, λ k. absurd (omega (arith, ints, h, k))); greater = (λ k. cc, λ k. absurd (omega (arith, ints, h, k))) }
-  at Equal h = record { less = (λ k. cc, λ k. absurd (omega (arith, ints, h, k))); equal = (λ _. h, λ _. refl); greater = (λ k. cc, λ k. absurd (omega (arith, ints, h, k))) }
-  at Greater h = record { less = (λ k. cc, λ k. absurd (omega (arith, ints, h, k))); equal = (λ k. cc, λ k. absurd (omega (arith, ints, h, k))); greater = (λ _. h, λ _. refl) }
+  at Less h = record {
+    less = (λ _. h, λ _. refl);
+    equal = (λ k. cc, λ k. absurd (omega (arith, ints, h, k)));
+    greater = (λ k. cc, λ k. absurd (omega (arith, ints, h, k)));
+  }
+  at Equal h = record {
+    less = (λ k. cc, λ k. absurd (omega (arith, ints, h, k)));
+    equal = (λ _. h, λ _. refl);
+    greater = (λ k. cc, λ k. absurd (omega (arith, ints, h, k)));
+  }
+  at Greater h = record {
+    less = (λ k. cc, λ k. absurd (omega (arith, ints, h, k)));
+    equal = (λ k. cc, λ k. absurd (omega (arith, ints, h, k)));
+    greater = (λ _. h, λ _. refl);
+  }

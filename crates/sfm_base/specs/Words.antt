@@ -1,4 +1,5 @@
--- A set of places as words of 64 bits each: bit t of word k tells of the place 64·k + t; and what becomes of it with another set.
+-- A set of places as words of 64 bits each: bit t of word k tells of the place 64·k + t; and what
+-- becomes of it with another set.
 use Rattle.std.specs.Prelude.{◌≡◌, ◌==◌, ℕ, ◌-◌, ◌<◌, ◌≤◌, ◌/◌, ◌%◌, ◌^◌, Bool, List, length, map, max, min, slice_index_or}
 use Rattle.std.specs.Int.{bit_at, div_ceil}
 use Rattle.std.specs.List.{range_with_len}
@@ -14,7 +15,8 @@ bit_of words e = bit_at (slice_index_or words (e / 64) 0) (e % 64)
 unfoldable pub members : ℕ → List ℕ → List Bool
 members n words = map (λ e. bit_of words e == 1) (range_with_len 0 n)
 
--- n is a number of the machine, there are just as many words as n places take, and they have no place past those
+-- n is a number of the machine, there are just as many words as n places take, and they have no
+-- place past those
 pub record AreWords (n : ℕ) (words : List ℕ) : Type 0 where
   pub fits : n < 2 ^ 64
   pub counted : length words ≡ div_ceil n 64

@@ -17,7 +17,8 @@ use Rattle.sfm_due.specs.Lined.{IsLined, Lined}
 use Rattle.sfm_pair.specs.Pair.{GoTogether, IsMeeting, NamesClash}
 use Rattle.sfm_pair.specs.Sides.{IsMetJudged}
 
--- the text of which this is said stands for something, for which this is due; or its first fault is named behind a word, with code 2
+-- the text of which this is said stands for something, for which this is due; or its first fault is
+-- named behind a word, with code 2
 abbrev pub IsDueBehind : {X : Type 0} → (X → Type 0) → List ℕ → (ℕ → Reason → Type 0)
     → (X → List ℕ → ℕ → Type 0) → List ℕ → ℕ → Type 0
 IsDueBehind Stands word IsFault IsDue written code =
@@ -39,7 +40,8 @@ IsDueForSizes asked text = IsDueBehind (GivesSizesOf asked text) (codes "sizes")
 
 -- the text pins these elements of what is asked
 abbrev pub GivesPinsOf : Question → List ℕ → PinData → Type 0
-GivesPinsOf asked text pins = IsReadAs (side_language (pins_form asked.instance.names)) text (ended pins)
+GivesPinsOf asked text pins = IsReadAs (side_language (pins_form asked.instance.names)) text
+    (ended pins)
 
 -- what is due behind the text of pinned elements
 abbrev pub IsDueForPins : Question → List ℕ → (PinData → List ℕ → ℕ → Type 0) → List ℕ → ℕ → Type 0
@@ -53,7 +55,8 @@ LeadsTo asked text edited = (e : Editing) × (edited.instance ≡ e.instance)
     × IsReadAs (side_language (edits_form asked.instance)) text (ended e)
 
 -- what is due behind the text of edits
-abbrev pub IsDueForEdits : Question → List ℕ → (Question → List ℕ → ℕ → Type 0) → List ℕ → ℕ → Type 0
+abbrev pub IsDueForEdits : Question → List ℕ → (Question → List ℕ → ℕ → Type 0) → List ℕ → ℕ
+    → Type 0
 IsDueForEdits asked text = IsDueBehind (LeadsTo asked text) (codes "edits")
     (IsFaultIn (side_language (edits_form asked.instance)) text)
 
@@ -65,7 +68,8 @@ IsDueForLeft text = IsDueBehind (IsLined text) (codes "left") (IsFaultOf text)
 abbrev pub GoesBeside : Lined → List ℕ → Lined → Type 0
 GoesBeside left text right = IsLined text right × GoTogether left right
 
--- what is due behind the right text; or, of a good one that does not go together with the left, the reason is named, with code 2
+-- what is due behind the right text; or, of a good one that does not go together with the left, the
+-- reason is named, with code 2
 abbrev pub IsDueForRight : Lined → List ℕ → (Lined → List ℕ → ℕ → Type 0) → List ℕ → ℕ → Type 0
 IsDueForRight left text IsDue written code =
     IsDueBehind (GoesBeside left text) (codes "right") (IsFaultOf text) IsDue written code
@@ -100,7 +104,8 @@ IsDueToAsk text pins = IsDueForInstance text (λ asked. IsDueForPins asked pins
 
 -- the most level base of the instance, whose sizes are small enough
 abbrev pub IsDueToLevel : List ℕ → List ℕ → ℕ → Type 0
-IsDueToLevel text = IsDueBehind (λ asked. IsAsked text asked × IsSmallEnough asked) (codes "refused")
+IsDueToLevel text = IsDueBehind (λ asked. IsAsked text asked × IsSmallEnough asked)
+    (codes "refused")
     (IsLevelFault text) (λ asked. IsDone (IsLevelled asked))
 
 -- a right answer of the instance that the edits lead to

@@ -11,30 +11,40 @@ use Rattle.sfm_cells.proofs.Rows.{AreBelow, cells_of, length-slots_of, of_slots,
 -- z has exactly the slots of the cells of a set of demands
 pub record HasSlots (whos slots : List ℕ) (s z : List Bool) : Type 0 where
   pub holds : (e : ℕ) → e < length whos → Has s (label_at whos e) → Has z (label_at slots e)
-  pub within : (k : ℕ) → Has z k → (e : ℕ) × (e < length whos) × Has s (label_at whos e) × (label_at slots e ≡ k)
+  pub within : (k : ℕ) → Has z k → (e : ℕ) × (e < length whos) × Has s (label_at whos e)
+      × (label_at slots e ≡ k)
 
-pub slots_of_cells : (m : ℕ) (lists : List (List ℕ)) (s : List Bool) → AreBelow m lists → HasSlots (owners 0 lists) (joined lists) s (slots_of m lists s)
+pub slots_of_cells : (m : ℕ) (lists : List (List ℕ)) (s : List Bool) → AreBelow m lists
+    → HasSlots (owners 0 lists) (joined lists) s (slots_of m lists s)
 slots_of_cells m lists s below = record {
-  holds = λ e lt has. in_slots m 0 lists s e (label_at (owners 0 lists) e) lt (omega arith) has ((cells_of m lists below).exist e lt);
-  within = λ k has. let (e, i, lt, own, h, is) = of_slots m 0 lists s k has in let q : label_at (owners 0 lists) e ≡ i = omega (arith, own) in (e, lt, rw q h, is);
+  holds = λ e lt has. in_slots m 0 lists s e (label_at (owners 0 lists) e) lt (omega arith) has
+      ((cells_of m lists below).exist e lt);
+  within = λ k has. let (e, i, lt, own, h, is) = of_slots m 0 lists s k has in let q : label_at
+      (owners 0 lists) e ≡ i = omega (arith, own) in (e, lt, rw q h, is);
 }
 
-module _ (demands capacities : List ℤ) (whos slots : List ℕ) (y : List ℤ) (cells : AreCells (length demands) (length capacities) whos slots) (part : IsPart demands capacities whos slots y) (s z : List Bool) (ls : length s ≡ length demands) (lz : length z ≡ length capacities) where
+module _ (demands capacities : List ℤ) (whos slots : List ℕ) (y : List ℤ)
+    (cells : AreCells (length demands) (length capacities) whos slots)
+    (part : IsPart demands capacities whos slots y) (s z : List Bool)
+    (ls : length s ≡ length demands) (lz : length z ≡ length capacities) where
   -- what the demands of a set get
   by_cells : sum_over s (tally (length demands) whos y) ≡ sum_in s whos y
   by_cells = sum_over-tally (length demands) s whos y ls cells.owned
 
   by_slots : sum_over z (tally (length capacities) slots y) ≡ sum_in z slots y
-  by_slots = sum_over-tally (length capacities) z slots y lz (λ e lt. let h = cells.same in cells.exist e (omega (arith, lt, h)))
+  by_slots = sum_over-tally (length capacities) z slots y lz
+      (λ e lt. let h = cells.same in cells.exist e (omega (arith, lt, h)))
 
   -- is at most what their slots have
-  pub at_most : HasSlots whos slots s z → sum_over s (tally (length demands) whos y) ≤ℤ sum_over z capacities
+  pub at_most : HasSlots whos slots s z → sum_over s (tally (length demands) whos y) ≤ℤ sum_over z
+      capacities
   at_most h =
       let a = by_cells in
       let b = by_slots in
       let len = length-tally (length capacities) slots y in
       let c = sum_in-le s z whos slots y cells.same part.amounts h.holds in
-      let d = sum_over-le z (tally (length capacities) slots y) capacities (lz ∙ sym len) (sym len) (λ k has.
+      let d = sum_over-le z (tally (length capacities) slots y) capacities (lz ∙ sym len) (sym len)
+      (λ k has.
       let (e, lt, own, is) = h.within k has in
       let x = cells.exist e lt in
       let t = tally-at (length capacities) k slots y (omega (arith, x, is)) in
@@ -43,12 +53,15 @@ module _ (demands capacities : List ℤ) (whos slots : List ℕ) (y : List ℤ) 
       omega (arith, ints, a, b, c, d)
 
   -- and all of it, if the set is closed
-  pub at_least : HasSlots whos slots s z → IsClosed capacities whos slots y s → sum_over z capacities ≤ℤ sum_over s (tally (length demands) whos y)
+  pub at_least : HasSlots whos slots s z → IsClosed capacities whos slots y s
+      → sum_over z capacities ≤ℤ sum_over s (tally (length demands) whos y)
   at_least h closed =
       let a = by_cells in
       let b = by_slots in
       let len = length-tally (length capacities) slots y in
-      let c = sum_in-same s z whos slots y cells.same h.holds (λ f lf has out. let (e, le, own, is) = h.within (label_at slots f) has in closed.none e f le lf own (sym is) out) in
+      let c = sum_in-same s z whos slots y cells.same h.holds
+      (λ f lf has out. let (e, le, own, is) = h.within (label_at slots f) has in closed.none e f
+      le lf own (sym is) out) in
       let d = sum_over-le z capacities (tally (length capacities) slots y) lz len (λ k has.
       let (e, lt, own, is) = h.within k has in
       let x = cells.exist e lt in
@@ -65,15 +78,20 @@ has_place (a ∷ s) zero h = omega arith
 has_place (a ∷ s) (suc e) h = let r = has_place s e h in omega (arith, r)
 
 -- demands that can be met: no set of them asks for more than its slots have
-pub hall_easy : (demands : List ℤ) (lists : List (List ℕ)) (capacities : List ℤ) (s : List Bool) → length lists ≡ length demands → AreBelow (length capacities) lists → length s ≡ length demands
-    → CanBeMet demands lists capacities → sum_over s demands ≤ℤ sum_over (slots_of (length capacities) lists s) capacities
+pub hall_easy : (demands : List ℤ) (lists : List (List ℕ)) (capacities : List ℤ) (s : List Bool)
+    → length lists ≡ length demands → AreBelow (length capacities) lists → length s ≡ length demands
+    → CanBeMet demands lists capacities
+    → sum_over s demands ≤ℤ sum_over (slots_of (length capacities) lists s) capacities
 hall_easy demands lists capacities s same below ls (rows, split) =
     let (part, met) = part_of_split demands lists capacities rows same split in
-    let cells : AreCells (length demands) (length capacities) (owners 0 lists) (joined lists) = rw (← same) (cells_of (length capacities) lists below) in
+    let cells : AreCells (length demands) (length capacities) (owners 0 lists)
+    (joined lists) = rw (← same) (cells_of (length capacities) lists below) in
     let z = slots_of (length capacities) lists s in
     let y = joined rows in
     let len = length-tally (length demands) (owners 0 lists) y in
-    let a = at_most demands capacities (owners 0 lists) (joined lists) y cells part s z ls (length-slots_of (length capacities) lists s) (slots_of_cells (length capacities) lists s below) in
+    let a = at_most demands capacities (owners 0 lists) (joined lists) y cells part s z ls
+    (length-slots_of (length capacities) lists s)
+    (slots_of_cells (length capacities) lists s below) in
     let b = sum_over-le s demands (tally (length demands) (owners 0 lists) y) ls len (λ i has.
     let lt = has_place s i has in
     let t = tally-at (length demands) i (owners 0 lists) y (omega (arith, lt, ls)) in
@@ -82,10 +100,17 @@ hall_easy demands lists capacities s same below ls (rows, split) =
     omega (arith, ints, a, b)
 
 -- demands of which a set asks for more than its slots have cannot be met
-pub short_refuses : (demands : List ℤ) (lists : List (List ℕ)) (capacities : List ℤ) (s : List Bool) → length lists ≡ length demands → AreBelow (length capacities) lists → IsShort demands lists capacities s → CanBeMet demands lists capacities → ⊥
-short_refuses demands lists capacities s same below short met = let h = hall_easy demands lists capacities s same below short.places met in let m = short.more in absurd (omega (arith, ints, h, m))
+pub short_refuses : (demands : List ℤ) (lists : List (List ℕ)) (capacities : List ℤ) (s : List Bool)
+    → length lists ≡ length demands → AreBelow (length capacities) lists
+    → IsShort demands lists capacities s → CanBeMet demands lists capacities → ⊥
+short_refuses demands lists capacities s same below short met =
+    let h = hall_easy demands lists capacities s same below short.places
+    met in let m = short.more in absurd (omega (arith, ints, h, m))
 
-module _ (demands capacities : List ℤ) (lists : List (List ℕ)) (y : List ℤ) (same : length lists ≡ length demands) (below : AreBelow (length capacities) lists) (part : IsPart demands capacities (owners 0 lists) (joined lists) y) (s : List Bool) (ls : length s ≡ length demands)
+module _ (demands capacities : List ℤ) (lists : List (List ℕ)) (y : List ℤ)
+    (same : length lists ≡ length demands) (below : AreBelow (length capacities) lists)
+    (part : IsPart demands capacities (owners 0 lists) (joined lists) y) (s : List Bool)
+    (ls : length s ≡ length demands)
     (closed : IsClosed capacities (owners 0 lists) (joined lists) y s) where
   cells : AreCells (length demands) (length capacities) (owners 0 lists) (joined lists)
   cells = rw (← same) (cells_of (length capacities) lists below)
@@ -98,7 +123,9 @@ module _ (demands capacities : List ℤ) (lists : List (List ℕ)) (y : List ℤ
 
   tight : sum_over z capacities ≤ℤ sum_over s got
   unfolding got z
-  tight = at_least demands capacities (owners 0 lists) (joined lists) y cells part s z ls (length-slots_of (length capacities) lists s) (slots_of_cells (length capacities) lists s below) closed
+  tight = at_least demands capacities (owners 0 lists) (joined lists) y cells part s z ls
+      (length-slots_of (length capacities) lists s)
+      (slots_of_cells (length capacities) lists s below) closed
 
   got-at : (i : ℕ) → i < length demands → amount_at got i ≡ sum_at i (owners 0 lists) y
   unfolding got
@@ -109,7 +136,8 @@ module _ (demands capacities : List ℤ) (lists : List (List ℕ)) (y : List ℤ
   length-got = length-tally (length demands) (owners 0 lists) y
 
   -- a closed set with a demand that lacks something asks for more than its slots have
-  pub short_of_closed : (i : ℕ) → Has s i → sum_at i (owners 0 lists) y <ℤ amount_at demands i → IsShort demands lists capacities s
+  pub short_of_closed : (i : ℕ) → Has s i → sum_at i (owners 0 lists) y <ℤ amount_at demands i
+      → IsShort demands lists capacities s
   unfolding z
   short_of_closed i has less = record {
     places = ls;
@@ -126,35 +154,45 @@ module _ (demands capacities : List ℤ) (lists : List (List ℕ)) (y : List ℤ
   }
 
   -- a demand in a closed set cannot get more while the others are met
-  pub most_of_closed : (u : ℕ) → Has s u → (b : ℤ) → CanBeMet (set demands u b) lists capacities → b ≤ℤ sum_at u (owners 0 lists) y
+  pub most_of_closed : (u : ℕ) → Has s u → (b : ℤ) → CanBeMet (set demands u b) lists capacities
+      → b ≤ℤ sum_at u (owners 0 lists) y
   unfolding z
-  most_of_closed u has b can = by_lt_z (sum_at u (owners 0 lists) y) b (λ more. absurd (over more)) (λ le. le) where
-    lu : u < length demands
-    lu = let h = has_place s u has in omega (arith, h, ls)
+  most_of_closed u has b can = by_lt_z (sum_at u (owners 0 lists) y) b (λ more. absurd (over more))
+      (λ le. le) where
+        lu : u < length demands
+        lu = let h = has_place s u has in omega (arith, h, ls)
 
-    len : length (set demands u b) ≡ length demands
-    len = length-set demands u b
+        len : length (set demands u b) ≡ length demands
+        len = length-set demands u b
 
-    asks : amount_at (set demands u b) u ≡ b
-    asks = get_or-set_same demands u b (pos 0) lu
+        asks : amount_at (set demands u b) u ≡ b
+        asks = get_or-set_same demands u b (pos 0) lu
 
-    over : sum_at u (owners 0 lists) y <ℤ b → ⊥
-    over more =
-        let t = tight in
-        let h = hall_easy (set demands u b) lists capacities s (same ∙ sym len) below (ls ∙ sym len) can in
-        let g = got-at u lu in
-        let m = sum_over-lt s got (set demands u b) u (ls ∙ sym length-got) (len ∙ sym length-got) (λ j hj.
-        let lj = has_place s j hj in
-        let lj' : j < length demands = omega (arith, lj, ls) in
-        let gj = got-at j lj' in
-        ⊎_elim
-        (λ (e : j ≡ u). let q = ap (λ i. amount_at got i) e in let r = ap (λ i. amount_at (set demands u b) i) e in omega (arith, ints, q, r, g, asks, more))
-        (λ ne. let o = get_or-set_other demands u j b (pos 0) ne in let p = part.got j lj' in omega (arith, ints, o, p, gj))
-        (cases_eq j u)) has (omega (arith, ints, g, asks, more)) in
-        absurd (omega (arith, ints, t, h, m))
+        over : sum_at u (owners 0 lists) y <ℤ b → ⊥
+        over more =
+            let t = tight in
+            let h = hall_easy (set demands u b) lists capacities s (same ∙ sym len) below
+            (ls ∙ sym len)
+            can in
+            let g = got-at u lu in
+            let m = sum_over-lt s got (set demands u b) u (ls ∙ sym length-got)
+            (len ∙ sym length-got)
+            (λ j hj.
+            let lj = has_place s j hj in
+            let lj' : j < length demands = omega (arith, lj, ls) in
+            let gj = got-at j lj' in
+            ⊎_elim
+            (λ (e : j ≡ u). let q = ap (λ i. amount_at got i)
+            e in let r = ap (λ i. amount_at (set demands u b) i)
+            e in omega (arith, ints, q, r, g, asks, more))
+            (λ ne. let o = get_or-set_other demands u j b (pos 0) ne in let p = part.got j
+            lj' in omega (arith, ints, o, p, gj))
+            (cases_eq j u)) has (omega (arith, ints, g, asks, more)) in
+            absurd (omega (arith, ints, t, h, m))
 
   -- demands that can be met ask for no more within a closed set than those that get what they have
-  pub closed_bounds : (x : List ℤ) → length x ≡ length demands → CanBeMet x lists capacities → sum_over s x ≤ℤ sum_over s demands
+  pub closed_bounds : (x : List ℤ) → length x ≡ length demands → CanBeMet x lists capacities
+      → sum_over s x ≤ℤ sum_over s demands
   unfolding z
   closed_bounds x lx can =
       let t = tight in

@@ -1,4 +1,5 @@
--- Amounts taken off the totals one after the other, and the demands that then lack something, in a list.
+-- Amounts taken off the totals one after the other, and the demands that then lack something, in a
+-- list.
 use Rattle.std.proofs.Common.{◌≡◌, ℕ, ◌+◌, ◌<◌, ◌≤◌, List, [], ◌∷◌, ◌++◌, length, set, drop, ℤ, pos, ◌+ℤ◌, ◌-ℤ◌, ◌≤ℤ◌, ◌<ℤ◌, refl, sym, ap, ◌∙◌, arith, ⊎_elim, length-set, get_or-set_other, get_or-set_same}
 use Rattle.std.proofs.lemmas.Int.{ints}
 use Rattle.std.proofs.lemmas.Bool.{cases_eq, cases_lt}
@@ -11,14 +12,21 @@ use Rattle.sfm_cells.proofs.Amounts.{AreAmounts, sum_at-drop, sum_at-low, only-s
 -- what the first e amounts leave
 pub record LeavesTo (totals : List ℤ) (labels : List ℕ) (y left : List ℤ) (e : ℕ) : Type 0 where
   pub places : length left ≡ length totals
-  pub each : (k : ℕ) → k < length totals → (amount_at left k +ℤ sum_at k labels y) ≡ (amount_at totals k +ℤ sum_at k (drop e labels) (drop e y))
+  pub each : (k : ℕ) → k < length totals
+      → (amount_at left k +ℤ sum_at k labels y)
+      ≡ (amount_at totals k +ℤ sum_at k (drop e labels) (drop e y))
 
-rest_low : (k e : ℕ) (labels : List ℕ) (y : List ℤ) → AreAmounts y → pos 0 ≤ℤ sum_at k (drop e labels) (drop e y)
-rest_low k e labels y low = sum_at-low k (drop e labels) (drop e y) (λ i. let q = get_or-drop e y i (pos 0) in let h = low (e + i) in omega (arith, ints, q, h))
+rest_low : (k e : ℕ) (labels : List ℕ) (y : List ℤ) → AreAmounts y
+    → pos 0 ≤ℤ sum_at k (drop e labels) (drop e y)
+rest_low k e labels y low = sum_at-low k (drop e labels) (drop e y)
+    (λ i. let q = get_or-drop e y i (pos 0) in let h = low (e + i) in omega (arith, ints, q, h))
 
 -- the next amount is at most what is left
-pub next_fits : (totals : List ℤ) (labels : List ℕ) (y left : List ℤ) (e : ℕ) → length y ≡ length labels → AreAmounts y → e < length labels → label_at labels e < length totals
-    → sum_at (label_at labels e) labels y ≤ℤ amount_at totals (label_at labels e) → LeavesTo totals labels y left e → amount_at y e ≤ℤ amount_at left (label_at labels e)
+pub next_fits : (totals : List ℤ) (labels : List ℕ) (y left : List ℤ) (e : ℕ)
+    → length y ≡ length labels → AreAmounts y → e < length labels
+    → label_at labels e < length totals
+    → sum_at (label_at labels e) labels y ≤ℤ amount_at totals (label_at labels e)
+    → LeavesTo totals labels y left e → amount_at y e ≤ℤ amount_at left (label_at labels e)
 next_fits totals labels y left e same low lt below within inv =
     let k = label_at labels e in
     let h = inv.each k below in
@@ -27,8 +35,11 @@ next_fits totals labels y left e same low lt below within inv =
     let r = rest_low k (e + 1) labels y low in
     omega (arith, ints, h, s, o, r, within)
 
-pub left_more : (totals : List ℤ) (labels : List ℕ) (y left : List ℤ) (e : ℕ) (x : ℤ) → x ≡ amount_at left (label_at labels e) → length y ≡ length labels → e < length labels → label_at labels e < length totals
-    → LeavesTo totals labels y left e → LeavesTo totals labels y (set left (label_at labels e) (x -ℤ amount_at y e)) (e + 1)
+pub left_more : (totals : List ℤ) (labels : List ℕ) (y left : List ℤ) (e : ℕ) (x : ℤ)
+    → x ≡ amount_at left (label_at labels e) → length y ≡ length labels → e < length labels
+    → label_at labels e < length totals
+    → LeavesTo totals labels y left e
+    → LeavesTo totals labels y (set left (label_at labels e) (x -ℤ amount_at y e)) (e + 1)
 left_more totals labels y left e x v same lt below inv = record {
   places = length-set left (label_at labels e) (x -ℤ amount_at y e) ∙ inv.places;
   each = λ k lk.
@@ -54,7 +65,8 @@ left_more totals labels y left e x v same lt below inv = record {
 pub left_none : (totals : List ℤ) (labels : List ℕ) (y : List ℤ) → LeavesTo totals labels y totals 0
 left_none totals labels y = record { places = refl; each = λ k lt. refl }
 
-pub left_all : (totals : List ℤ) (labels : List ℕ) (y left : List ℤ) (e : ℕ) → length labels ≤ e → LeavesTo totals labels y left e → AreLeft totals labels y left
+pub left_all : (totals : List ℤ) (labels : List ℕ) (y left : List ℤ) (e : ℕ) → length labels ≤ e
+    → LeavesTo totals labels y left e → AreLeft totals labels y left
 left_all totals labels y left e past inv = record {
   places = inv.places;
   each = λ k lk.
@@ -65,7 +77,9 @@ left_all totals labels y left e past inv = record {
 }
 
 -- what one number gets is taken from what it has left
-pub left_taken : (totals : List ℤ) (labels : List ℕ) (y z left : List ℤ) (j : ℕ) (a : ℤ) → j < length totals → AreLeft totals labels y left → ((k : ℕ) → sum_at k labels z ≡ (sum_at k labels y +ℤ only j k a))
+pub left_taken : (totals : List ℤ) (labels : List ℕ) (y z left : List ℤ) (j : ℕ) (a : ℤ)
+    → j < length totals → AreLeft totals labels y left
+    → ((k : ℕ) → sum_at k labels z ≡ (sum_at k labels y +ℤ only j k a))
     → AreLeft totals labels z (set left j (amount_at left j -ℤ a))
 left_taken totals labels y z left j a below h got = record {
   places = length-set left j (amount_at left j -ℤ a) ∙ h.places;
@@ -90,14 +104,19 @@ left_taken totals labels y z left j a below h got = record {
 -- ---- the demands that lack something
 
 pub listed_none : (lacks : List ℤ) → ListsBelow 0 lacks []
-listed_none lacks = record { below = λ k lt. absurd (omega (arith, lt)); all = λ i lt some. absurd (omega (arith, lt)) }
+listed_none lacks = record {
+  below = λ k lt. absurd (omega (arith, lt));
+  all = λ i lt some. absurd (omega (arith, lt));
+}
 
-pub listed_skip : (i : ℕ) (lacks : List ℤ) (list : List ℕ) → amount_at lacks i ≤ℤ pos 0 → ListsBelow i lacks list → ListsBelow (i + 1) lacks list
+pub listed_skip : (i : ℕ) (lacks : List ℤ) (list : List ℕ) → amount_at lacks i ≤ℤ pos 0
+    → ListsBelow i lacks list → ListsBelow (i + 1) lacks list
 listed_skip i lacks list none h = record {
   below = λ k lt. let b = h.below k lt in omega (arith, b);
   all = λ j lt some. ⊎_elim
       (λ (l : j < i). h.all j l some)
-      (λ ge. let q : j ≡ i = omega (arith, ge, lt) in let v = ap (λ m. amount_at lacks m) q in absurd (omega (arith, ints, v, none, some)))
+      (λ ge. let q : j ≡ i = omega (arith, ge, lt) in let v = ap (λ m. amount_at lacks m)
+      q in absurd (omega (arith, ints, v, none, some)))
       (cases_lt j i);
 }
 
@@ -113,7 +132,8 @@ module _ (list : List ℕ) (i : ℕ) where
   last k ge lt = let l = long in get_or_push list i 0 k (omega (arith, ge, lt, l))
 
   -- what stands in a longer list below n
-  below_more : (n : ℕ) → i < n → ((k : ℕ) → k < length list → label_at list k < n) → (k : ℕ) → k < length (list ++ i ∷ []) → label_at (list ++ i ∷ []) k < n
+  below_more : (n : ℕ) → i < n → ((k : ℕ) → k < length list → label_at list k < n) → (k : ℕ)
+      → k < length (list ++ i ∷ []) → label_at (list ++ i ∷ []) k < n
   below_more n li h k lt = ⊎_elim
       (λ (l : k < length list). let a = old k l in let r = h k l in omega (arith, a, r))
       (λ ge. let q = last k ge lt in omega (arith, q, li))
@@ -126,11 +146,17 @@ module _ (list : List ℕ) (i : ℕ) where
   stands_more j h = let l = long in let (k, lk, q) = h in (k, omega (arith, lk, l), old k lk ∙ q)
 
   stands_last : (j : ℕ) → j ≡ i → StandsIn (list ++ i ∷ []) j
-  stands_last j q = let l = long in (length list, omega (arith, l), last (length list) (omega arith) (omega (arith, l)) ∙ sym q)
+  stands_last j q = let l = long in (
+    length list,
+    omega (arith, l),
+    last (length list) (omega arith) (omega (arith, l)) ∙ sym q,
+  )
 
-pub listed_more : (i : ℕ) (lacks : List ℤ) (list : List ℕ) → ListsBelow i lacks list → ListsBelow (i + 1) lacks (list ++ i ∷ [])
+pub listed_more : (i : ℕ) (lacks : List ℤ) (list : List ℕ) → ListsBelow i lacks list
+    → ListsBelow (i + 1) lacks (list ++ i ∷ [])
 listed_more i lacks list h = record {
-  below = below_more list i (i + 1) (omega arith) (λ k lt. let b = h.below k lt in omega (arith, b));
+  below = below_more list i (i + 1) (omega arith)
+      (λ k lt. let b = h.below k lt in omega (arith, b));
   all = λ j lt some. ⊎_elim
       (λ (l : j < i). stands_more list i j (h.all j l some))
       (λ ge. stands_last list i j (omega (arith, ge, lt)))
@@ -138,21 +164,27 @@ listed_more i lacks list h = record {
 }
 
 -- where no demand lacks more than before
-pub listed_on : (lacks after : List ℤ) (list : List ℕ) → length after ≡ length lacks → ((i : ℕ) → i < length lacks → amount_at after i ≤ℤ amount_at lacks i) → ListsLacking lacks list → ListsLacking after list
+pub listed_on : (lacks after : List ℤ) (list : List ℕ) → length after ≡ length lacks
+    → ((i : ℕ) → i < length lacks → amount_at after i ≤ℤ amount_at lacks i)
+    → ListsLacking lacks list → ListsLacking after list
 listed_on lacks after list same le h = record {
   below = λ k lt. let b = h.below k lt in omega (arith, b, same);
-  all = λ i lt some. let li : i < length lacks = omega (arith, lt, same) in let l = le i li in h.all i li (omega (arith, ints, l, some));
+  all = λ i lt some. let li : i < length lacks = omega (arith, lt, same) in let l = le i li in h.all
+      i li (omega (arith, ints, l, some));
 }
 
 -- where no demand lacks anything
-pub listed_nothing : (lacks : List ℤ) → ((i : ℕ) → i < length lacks → amount_at lacks i ≤ℤ pos 0) → ListsLacking lacks []
+pub listed_nothing : (lacks : List ℤ) → ((i : ℕ) → i < length lacks → amount_at lacks i ≤ℤ pos 0)
+    → ListsLacking lacks []
 listed_nothing lacks none = record {
   below = λ k lt. absurd (omega (arith, lt));
   all = λ i lt some. let n = none i lt in absurd (omega (arith, ints, n, some));
 }
 
 -- where one demand alone lacks something
-pub listed_one : (lacks : List ℤ) (u : ℕ) → u < length lacks → ((i : ℕ) → i < length lacks → (i ≡ u → ⊥) → amount_at lacks i ≤ℤ pos 0) → ListsLacking lacks (u ∷ [])
+pub listed_one : (lacks : List ℤ) (u : ℕ) → u < length lacks
+    → ((i : ℕ) → i < length lacks → (i ≡ u → ⊥) → amount_at lacks i ≤ℤ pos 0)
+    → ListsLacking lacks (u ∷ [])
 listed_one lacks u lu none = record {
   below = λ k lt. let q : k ≡ 0 = omega (arith, lt) in rw q lu;
   all = λ i lt some. ⊎_elim
@@ -162,15 +194,19 @@ listed_one lacks u lu none = record {
 }
 
 -- what one demand lacks changes
-module _ (lacks : List ℤ) (list : List ℕ) (i : ℕ) (v : ℤ) (lt : i < length lacks) (h : ListsLacking lacks list) where
+module _ (lacks : List ℤ) (list : List ℕ) (i : ℕ) (v : ℤ) (lt : i < length lacks)
+    (h : ListsLacking lacks list) where
   -- another that lacks something then did so before
-  other_lacks : (j : ℕ) → (j ≡ i → ⊥) → pos 0 <ℤ amount_at (set lacks i v) j → pos 0 <ℤ amount_at lacks j
-  other_lacks j ne some = let g = get_or-set_other lacks i j v (pos 0) ne in omega (arith, ints, g, some)
+  other_lacks : (j : ℕ) → (j ≡ i → ⊥) → pos 0 <ℤ amount_at (set lacks i v) j
+      → pos 0 <ℤ amount_at lacks j
+  other_lacks j ne some = let g = get_or-set_other lacks i j v (pos 0)
+      ne in omega (arith, ints, g, some)
 
   -- the demand is listed once more
   pub listed_besides : ListsLacking (set lacks i v) (list ++ i ∷ [])
   listed_besides = let p = length-set lacks i v in record {
-    below = below_more list i (length (set lacks i v)) (omega (arith, p, lt)) (λ k lk. let b = h.below k lk in omega (arith, b, p));
+    below = below_more list i (length (set lacks i v)) (omega (arith, p, lt))
+        (λ k lk. let b = h.below k lk in omega (arith, b, p));
     all = λ j lj some. ⊎_elim
         (λ (q : j ≡ i). stands_last list i j q)
         (λ ne. stands_more list i j (h.all j (omega (arith, p, lj)) (other_lacks j ne some)))

@@ -15,12 +15,20 @@ pub record AreTurned (k : ℕ) (totals before : List ℤ) : Type 0 where
   pub more : set (turned k totals before) k (amount_at totals k) ≡ turned (suc k) totals before
   pub all : length totals ≤ k → turned k totals before ≡ totals
 
-pub are_turned : (k : ℕ) (totals before : List ℤ) → length before ≡ length totals → AreTurned k totals before
+pub are_turned : (k : ℕ) (totals before : List ℤ) → length before ≡ length totals
+    → AreTurned k totals before
 are_turned k [] (b ∷ before) same = absurd (omega arith)
 are_turned k (t ∷ totals) [] same = absurd (omega arith)
 are_turned zero [] [] same = record { places = refl; next = refl; more = refl; all = λ past. refl }
-are_turned zero (t ∷ totals) (b ∷ before) same = record { places = same; next = refl; more = refl; all = λ past. absurd (omega (arith, past)) }
-are_turned (suc k) [] [] same = record { places = refl; next = refl; more = refl; all = λ past. refl }
+are_turned zero (t ∷ totals) (b ∷ before) same =
+    record { places = same; next = refl; more = refl; all = λ past. absurd (omega (arith, past)) }
+are_turned (suc k) [] [] same =
+    record { places = refl; next = refl; more = refl; all = λ past. refl }
 are_turned (suc k) (t ∷ totals) (b ∷ before) same =
     let r = are_turned k totals before (omega arith) in
-    record { places = ap suc r.places; next = r.next; more = ap (λ rest. t ∷ rest) r.more; all = λ past. ap (λ rest. t ∷ rest) (r.all (omega (arith, past))) }
+    record {
+      places = ap suc r.places;
+      next = r.next;
+      more = ap (λ rest. t ∷ rest) r.more;
+      all = λ past. ap (λ rest. t ∷ rest) (r.all (omega (arith, past)));
+    }

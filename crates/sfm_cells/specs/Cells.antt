@@ -1,5 +1,6 @@
--- The cells of demands in one list: a cell is a demand with one entry of its list. Cells are told by two lists of the same
--- length, the demand of each and the slot of each, and amounts on them by a third.
+-- The cells of demands in one list: a cell is a demand with one entry of its list. Cells are told
+-- by two lists of the same length, the demand of each and the slot of each, and amounts on them by
+-- a third.
 use Rattle.std.specs.Prelude.{◌≡◌, ℕ, suc, ◌<◌, Bool, false, List, [], ◌∷◌, ◌++◌, length, replicate, slice_index_or, take, drop, ℤ, pos, ◌+ℤ◌, ◌≤ℤ◌, ◌<ℤ◌, nat_eq, if◌then◌else◌}
 use Rattle.sfm_spec.specs.Sets.{Has}
 use Rattle.sfm_cells.specs.Splits.{sum_at, amount_at, Demands}
@@ -38,7 +39,8 @@ pub record AreCells (n m : ℕ) (whos slots : List ℕ) : Type 0 where
   pub owned : (e : ℕ) → e < length whos → label_at whos e < n
   pub exist : (e : ℕ) → e < length whos → label_at slots e < m
 
--- amounts on cells, not negative, by which no demand gets more than it asks for and no slot more than its capacity
+-- amounts on cells, not negative, by which no demand gets more than it asks for and no slot more
+-- than its capacity
 pub record IsPart (demands capacities : List ℤ) (whos slots : List ℕ) (y : List ℤ) : Type 0 where
   pub cells : length y ≡ length whos
   pub amounts : (e : ℕ) → pos 0 ≤ℤ amount_at y e
@@ -46,9 +48,12 @@ pub record IsPart (demands capacities : List ℤ) (whos slots : List ℕ) (y : L
   pub within : (s : ℕ) → s < length capacities → sum_at s slots y ≤ℤ amount_at capacities s
 
 -- each slot of a demand in the set is full, and no other demand has anything on one of these slots
-pub record IsClosed (capacities : List ℤ) (whos slots : List ℕ) (y : List ℤ) (set : List Bool) : Type 0 where
-  pub full : (e : ℕ) → e < length whos → Has set (label_at whos e) → amount_at capacities (label_at slots e) ≤ℤ sum_at (label_at slots e) slots y
-  pub none : (e f : ℕ) → e < length whos → f < length whos → Has set (label_at whos e) → label_at slots f ≡ label_at slots e
+pub record IsClosed (capacities : List ℤ) (whos slots : List ℕ) (y : List ℤ)
+    (set : List Bool) : Type 0 where
+  pub full : (e : ℕ) → e < length whos → Has set (label_at whos e)
+      → amount_at capacities (label_at slots e) ≤ℤ sum_at (label_at slots e) slots y
+  pub none : (e f : ℕ) → e < length whos → f < length whos → Has set (label_at whos e)
+      → label_at slots f ≡ label_at slots e
       → slice_index_or set (label_at whos f) false ≡ false → amount_at y f ≡ pos 0
 
 -- no demand lacks anything
@@ -56,13 +61,15 @@ abbrev pub IsMet : List ℤ → List ℕ → List ℤ → Type 0
 IsMet demands whos y = (i : ℕ) → i < length demands → amount_at demands i ≤ℤ sum_at i whos y
 
 -- a closed set with all demands that lack something
-pub record IsFilled (demands capacities : List ℤ) (whos slots : List ℕ) (y : List ℤ) (set : List Bool) : Type 0 where
+pub record IsFilled (demands capacities : List ℤ) (whos slots : List ℕ) (y : List ℤ)
+    (set : List Bool) : Type 0 where
   pub places : length set ≡ length demands
   pub closed : IsClosed capacities whos slots y set
   pub lacking : (i : ℕ) → i < length demands → sum_at i whos y <ℤ amount_at demands i → Has set i
 
 -- some demand lacks something, and the set is closed and has all that do
-pub record IsLacking (demands capacities : List ℤ) (whos slots : List ℕ) (y : List ℤ) (set : List Bool) : Type 0 where
+pub record IsLacking (demands capacities : List ℤ) (whos slots : List ℕ) (y : List ℤ)
+    (set : List Bool) : Type 0 where
   pub filled : IsFilled demands capacities whos slots y set
   pub one : ℕ
   pub in_range : one < length demands

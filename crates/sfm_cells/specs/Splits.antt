@@ -1,5 +1,6 @@
--- Demands that are split over slots, each demand over the slots of its own list, and no slot above its capacity.
--- Textbook: Schrijver, Combinatorial Optimization, section 21 (transversals and transportation) and section 22 (Hall's condition).
+-- Demands that are split over slots, each demand over the slots of its own list, and no slot above
+-- its capacity. Textbook: Schrijver, Combinatorial Optimization, section 21 (transversals and
+-- transportation) and section 22 (Hall's condition).
 use Rattle.std.specs.Prelude.{◌≡◌, ℕ, ◌<◌, ◌≤◌, ◌^◌, Bool, true, List, [], ◌∷◌, length, slice_index_or, slice_set, nat_eq, ℤ, pos, ◌+ℤ◌, ◌≤ℤ◌, ◌<ℤ◌, if◌then◌else◌}
 use Rattle.std.specs.List.{All}
 use Rattle.sfm_spec.specs.Sets.{empty_set, union, sum_over}
@@ -26,8 +27,10 @@ list_at lists i = slice_index_or lists i []
 abbrev pub row_at : List (List ℤ) → ℕ → List ℤ
 row_at rows i = slice_index_or rows i []
 
--- each demand has an amount, not negative, for each slot of its list; its amounts add up to it; no slot has more than its capacity
-pub record IsAssignment (demands : List ℤ) (lists : List (List ℕ)) (capacities : List ℤ) (rows : List (List ℤ)) : Type 0 where
+-- each demand has an amount, not negative, for each slot of its list; its amounts add up to it; no
+-- slot has more than its capacity
+pub record IsAssignment (demands : List ℤ) (lists : List (List ℕ)) (capacities : List ℤ)
+    (rows : List (List ℤ)) : Type 0 where
   pub row_each : length rows ≡ length lists
   pub cells : (i : ℕ) → i < length lists → length (row_at rows i) ≡ length (list_at lists i)
   pub amounts : (i j : ℕ) → pos 0 ≤ℤ amount_at (row_at rows i) j
@@ -35,7 +38,8 @@ pub record IsAssignment (demands : List ℤ) (lists : List (List ℕ)) (capaciti
   pub within : (s : ℕ) → s < length capacities → load lists rows s ≤ℤ amount_at capacities s
 
 abbrev pub CanBeMet : List ℤ → List (List ℕ) → List ℤ → Type 0
-CanBeMet demands lists capacities = (rows : List (List ℤ)) × IsAssignment demands lists capacities rows
+CanBeMet demands lists capacities = (rows : List (List ℤ))
+    × IsAssignment demands lists capacities rows
 
 -- the numbers of a list, as a set of m
 abbrev pub set_of : ℕ → List ℕ → List Bool
@@ -46,15 +50,18 @@ set_of m (s ∷ slots) = slice_set (set_of m slots) s true
 abbrev pub slots_of : ℕ → List (List ℕ) → List Bool → List Bool
 slots_of m [] set = empty_set m
 slots_of m (slots ∷ lists) [] = empty_set m
-slots_of m (slots ∷ lists) (b ∷ set) = if b then union (set_of m slots) (slots_of m lists set) else slots_of m lists set
+slots_of m (slots ∷ lists) (b ∷ set) = if b then union (set_of m slots) (slots_of m lists set) else
+    slots_of m lists set
 
 -- a set of demands asks for more than its slots have, each slot counted once
-pub record IsShort (demands : List ℤ) (lists : List (List ℕ)) (capacities : List ℤ) (set : List Bool) : Type 0 where
+pub record IsShort (demands : List ℤ) (lists : List (List ℕ)) (capacities : List ℤ)
+    (set : List Bool) : Type 0 where
   pub places : length set ≡ length demands
   pub more : sum_over (slots_of (length capacities) lists set) capacities <ℤ sum_over set demands
 
 -- r is the greatest amount that the demand u can get while all others are met
-pub record IsMost (demands : List ℤ) (lists : List (List ℕ)) (capacities : List ℤ) (u : ℕ) (r : ℤ) : Type 0 where
+pub record IsMost (demands : List ℤ) (lists : List (List ℕ)) (capacities : List ℤ) (u : ℕ)
+    (r : ℤ) : Type 0 where
   pub reached : CanBeMet (slice_set demands u r) lists capacities
   pub greatest : (b : ℤ) → CanBeMet (slice_set demands u b) lists capacities → b ≤ℤ r
 

@@ -13,6 +13,9 @@ last_digit n lt =
     ap (λ d. (48 + d) ∷ []) same ∙ sym (decimal_digit n lt)
 
 -- the tens, and then the ones
-pub digit_behind : (from out new : PageData) (n : ℕ) → 10 ≤ n → n < 2 ^ 64 → out ≡ after_page from (decimal (n / 10)) → new ≡ after_page out ((48 + n % 10) ∷ []) → new ≡ after_page from (decimal n)
+pub digit_behind : (from out new : PageData) (n : ℕ) → 10 ≤ n → n < 2 ^ 64
+    → out ≡ after_page from (decimal (n / 10)) → new ≡ after_page out ((48 + n % 10) ∷ [])
+    → new ≡ after_page from (decimal n)
 digit_behind from out new n ge small tens ones =
-    both after_page page_joined from out new (decimal (n / 10)) ((48 + n % 10) ∷ []) tens ones ∙ ap (after_page from) (sym (decimal_step n ge small))
+    both after_page page_joined from out new (decimal (n / 10)) ((48 + n % 10) ∷ []) tens ones
+    ∙ ap (after_page from) (sym (decimal_step n ge small))

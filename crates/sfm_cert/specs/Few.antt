@@ -1,4 +1,5 @@
--- Answers with few lines: an answer that is true has at most as many blocks, and as many slopes, as there are elements.
+-- Answers with few lines: an answer that is true has at most as many blocks, and as many slopes, as
+-- there are elements.
 use Rattle.std.specs.Prelude.{◌≤◌, length}
 use Rattle.sfm_cert.specs.Answer.{Answer}
 

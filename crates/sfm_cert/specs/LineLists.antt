@@ -1,4 +1,5 @@
--- The lists of the numbers and of the lines of an answer, each by its own word: the code writes and reads each one by one.
+-- The lists of the numbers and of the lines of an answer, each by its own word: the code writes and
+-- reads each one by one.
 use Rattle.std.specs.Prelude.{ℕ, List, [], ◌∷◌, ◌++◌, codes, map, decimal, ℤ}
 use Rattle.std.specs.List.{enumerate_from, flat_map}
 use Rattle.std.specs.Fmt.{signed_decimal}
@@ -18,7 +19,9 @@ numbered x = spaced signed_decimal x
 
 -- the four lines before the blocks
 abbrev pub first_lines : Form → Answer → List (List ℕ)
-first_lines form a = form.header ∷ (codes "minimum " ++ signed_decimal a.value) ∷ (codes "least" ++ listed form.names a.least) ∷ (codes "greatest" ++ listed form.names a.greatest) ∷ []
+first_lines form a = form.header ∷ (codes "minimum " ++ signed_decimal a.value)
+    ∷ (codes "least" ++ listed form.names a.least)
+    ∷ (codes "greatest" ++ listed form.names a.greatest) ∷ []
 
 -- a line for each block, numbered on from i
 abbrev pub block_lines : List (List ℕ) → ℕ → List Block → List (List ℕ)

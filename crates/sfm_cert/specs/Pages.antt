@@ -1,4 +1,5 @@
--- What becomes of a page, and of the room for a text, by a piece of text. Two pieces do what the longer piece does that they make.
+-- What becomes of a page, and of the room for a text, by a piece of text. Two pieces do what the
+-- longer piece does that they make.
 use Rattle.std.specs.Prelude.{◌≡◌, ℕ, ◌-◌, List, [], ◌∷◌, ◌++◌, length, take}
 use Rattle.std.proofs.Common.{zero, suc, refl, sym, ap, ◌∙◌, arith, append_assoc}
 use Rattle.std.proofs.lemmas.List.{length-append, append-nil}
@@ -7,7 +8,10 @@ use Rattle.sfm_base.specs.Page.{PageData}
 
 -- as much of the piece as there is room for stands at the end
 abbrev pub after_page : PageData → List ℕ → PageData
-after_page p piece = record { bytes = p.bytes ++ take p.spare piece; spare = p.spare - length piece }
+after_page p piece = record {
+  bytes = p.bytes ++ take p.spare piece;
+  spare = p.spare - length piece;
+}
 
 pub left_nothing : (left : ℕ) → left - 0 ≡ left
 left_nothing left = omega arith
@@ -24,10 +28,17 @@ one_less n k = omega arith
 take_parts : (n : ℕ) (x y : List ℕ) → take n (x ++ y) ≡ take n x ++ take (n - length x) y
 take_parts n [] y = rw (take-nil n) (ap (λ m. take m y) (sym (left_nothing n)))
 take_parts zero (c ∷ x) y = ap (λ m. take m y) (sym (none_left (length (c ∷ x))))
-take_parts (suc n) (c ∷ x) y = ap (λ z. c ∷ z) (take_parts n x y ∙ ap (λ m. take n x ++ take m y) (one_less n (length x)))
+take_parts (suc n) (c ∷ x) y =
+    ap (λ z. c ∷ z) (take_parts n x y ∙ ap (λ m. take n x ++ take m y) (one_less n (length x)))
 
 pub page_nothing : (p : PageData) → after_page p [] ≡ p
 page_nothing p = rw (take-nil p.spare, append-nil p.bytes, left_nothing p.spare) refl
 
-pub page_joined : (p : PageData) (x y : List ℕ) → after_page (after_page p x) y ≡ after_page p (x ++ y)
-page_joined p x y = rw (take_parts p.spare x y, append_assoc p.bytes (take p.spare x) (take (p.spare - length x) y), left_joined p.spare x y) refl
+pub page_joined : (p : PageData) (x y : List ℕ)
+    → after_page (after_page p x) y ≡ after_page p (x ++ y)
+page_joined p x y = rw (
+  take_parts p.spare x y,
+  append_assoc p.bytes (take p.spare x) (take (p.spare - length x) y),
+  left_joined p.spare x y,
+)
+    refl

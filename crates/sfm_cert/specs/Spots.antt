@@ -20,9 +20,12 @@ labels_from k lines = flat_map (λ (line, layers). labels_in line layers) (enume
 -- those from a layer of the first of these lines on
 abbrev pub labels_left : ℕ → ℕ → List ℕ → List (List ℕ)
 labels_left line layer [] = []
-labels_left line layer (layers ∷ lines) = map (label_text line) (range_with_len layer (layers + 1 - layer)) ++ labels_from (line + 1) lines
+labels_left line layer (layers ∷ lines) =
+    map (label_text line) (range_with_len layer (layers + 1 - layer)) ++ labels_from (line + 1)
+    lines
 
 -- so many terms stand before the spot, which is that of the next one
 pub record StandsAt (lines : List ℕ) (i : ℕ) (spot : Spot) : Type 0 where
   pub within : spot.before < length lines → spot.layer ≤ slice_index_or lines spot.before 0
-  pub left : labels_left (spot.before + 1) spot.layer (drop spot.before lines) ≡ drop i (labels_of lines)
+  pub left : labels_left (spot.before + 1) spot.layer (drop spot.before lines) ≡ drop i
+      (labels_of lines)

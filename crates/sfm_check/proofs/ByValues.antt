@@ -1,6 +1,7 @@
--- Slopes by values. A set that is worth the sum of min(z, 0) at bases is a minimiser, as no allowed set is worth less, and the
--- bases prove. Where the set before each slope and its own are such sets, slopes rise and sets grow, each slope is the next one:
--- the set before lies within each minimiser, as it is empty or a minimiser at the slope before; and the slope's own has each
+-- Slopes by values. A set that is worth the sum of min(z, 0) at bases is a minimiser, as no allowed
+-- set is worth less, and the bases prove. Where the set before each slope and its own are such
+-- sets, slopes rise and sets grow, each slope is the next one: the set before lies within each
+-- minimiser, as it is empty or a minimiser at the slope before; and the slope's own has each
 -- within, as it is the whole set or a minimiser at the slope behind.
 use Rattle.std.proofs.Common.{◌≡◌, ◌≢◌, ⊎_elim, ℕ, zero, suc, ◌<◌, Bool, List, [], length, map, get_or, ℤ, pos, ◌-ℤ◌, ◌*ℤ◌, ◌≤ℤ◌, refl, sym, ap, ◌∙◌, arith, subst}
 use Rattle.std.proofs.lemmas.Bool.{cases_lt}
@@ -25,23 +26,33 @@ use Rattle.sfm_check.specs.declared.worth.Worth.{Worth}
 no_break : Break
 no_break = record { num = pos 0; den = pos 1; members = []; bases = [] }
 
-module _ (terms : List Meaning) (n : ℕ) (sizes : List ℤ) (fit : AreTerms n terms) (sized : AreElementSizes n sizes) where
+module _ (terms : List Meaning) (n : ℕ) (sizes : List ℤ) (fit : AreTerms n terms)
+    (sized : AreElementSizes n sizes) where
   -- a set that attains the bound of the bases
-  pub minimiser_by : (b : Break) (s : List Bool) (w : Worth) → AreBases b.den terms b.bases → length s ≡ n → IsWorth terms sizes s w → Attains terms n sizes b w
-      → IsMinimiser terms n b.den (sized_shift sizes b.num) s × Prove terms n b.den (sized_shift sizes b.num) b.bases
+  pub minimiser_by : (b : Break) (s : List Bool) (w : Worth) → AreBases b.den terms b.bases
+      → length s ≡ n → IsWorth terms sizes s w → Attains terms n sizes b w
+      → IsMinimiser terms n b.den (sized_shift sizes b.num) s
+      × Prove terms n b.den (sized_shift sizes b.num) b.bases
   minimiser_by b s w bases places h attains =
       let one = shifted-sized terms sizes b.num b.den s in
-      let by = ap (λ z. b.den *ℤ z -ℤ b.num *ℤ w.weight) h.sum ∙ ap (λ z. b.den *ℤ sum_at terms s -ℤ b.num *ℤ z) h.weight in
-      let same : shifted_at terms b.den (sized_shift sizes b.num) s ≡ deficit n (rest_at terms b.bases (sized_shift sizes b.num)) = one ∙ (sym by ∙ attains) in
-      let (signed, tight) = reached_back terms b.bases n b.den (sized_shift sizes b.num) fit bases s places h.allowed same in
+      let by = ap (λ z. b.den *ℤ z -ℤ b.num *ℤ w.weight) h.sum
+      ∙ ap (λ z. b.den *ℤ sum_at terms s -ℤ b.num *ℤ z) h.weight in
+      let same : shifted_at terms b.den (sized_shift sizes b.num) s ≡ deficit n
+      (rest_at terms b.bases (sized_shift sizes b.num)) = one ∙ (sym by ∙ attains) in
+      let (signed, tight) = reached_back terms b.bases n b.den (sized_shift sizes b.num) fit bases s
+      places h.allowed same in
       proved_by terms b.bases n b.den (sized_shift sizes b.num) fit bases s places signed tight
 
   -- minimisers at a lower slope lie within those at a higher one
-  pub nested : (p q p' q' : ℤ) (s t : List Bool) → pos 1 ≤ℤ q → pos 1 ≤ℤ q' → IsLowerSlope p q p' q' → IsMinimiser terms n q (sized_shift sizes p) s → IsMinimiser terms n q' (sized_shift sizes p') t → IsWithin s t
+  pub nested : (p q p' q' : ℤ) (s t : List Bool) → pos 1 ≤ℤ q → pos 1 ≤ℤ q' → IsLowerSlope p q p' q'
+      → IsMinimiser terms n q (sized_shift sizes p) s
+      → IsMinimiser terms n q' (sized_shift sizes p') t → IsWithin s t
   nested p q p' q' s t lq lq' less hs ht =
       slopes_nest terms n sizes fit sized.places sized.positive p q p' q' s t lq lq' less hs ht
 
-  module _ (form : Form) (a : Answer) (names : length form.names ≡ n) (formed : IsFormed form a) (bases : (s : ℕ) → s < length (sections_of a) → AreBases (section_at a s).den terms (section_at a s).bases)
+  module _ (form : Form) (a : Answer) (names : length form.names ≡ n) (formed : IsFormed form a)
+      (bases : (s : ℕ) → s < length (sections_of a)
+      → AreBases (section_at a s).den terms (section_at a s).bases)
       (steps : (k : ℕ) → k < length a.breaks → IsStepAt terms n sizes a k) where
     at : ℕ → Break
     at k = get_or a.breaks k no_break
@@ -65,7 +76,8 @@ module _ (terms : List Meaning) (n : ℕ) (sizes : List ℤ) (fit : AreTerms n t
     before_places : (k : ℕ) → k < length a.breaks → length (before k) ≡ n
     unfolding before
     before_places zero l = length-replicate n _
-    before_places (suc k) l = let lk : k < length a.breaks = omega (arith, l) in ap length (behind k lk) ∙ places k lk
+    before_places (suc k) l = let lk : k < length a.breaks = omega (arith, l) in ap length
+        (behind k lk) ∙ places k lk
 
     positive : (k : ℕ) → k < length a.breaks → pos 1 ≤ℤ (at k).den
     unfolding at
@@ -76,40 +88,57 @@ module _ (terms : List Meaning) (n : ℕ) (sizes : List ℤ) (fit : AreTerms n t
     section_is k l = get_or-map section_of a.breaks k no_break no_section l
 
     rows : (k : ℕ) → k < length a.breaks → AreBases (at k).den terms (at k).bases
-    rows k l = subst (λ (z : Section). AreBases z.den terms z.bases) (section_is k l) (bases (suc k) (omega (arith, l, length-map a.breaks section_of)))
+    rows k l = subst (λ (z : Section). AreBases z.den terms z.bases) (section_is k l)
+        (bases (suc k) (omega (arith, l, length-map a.breaks section_of)))
 
     step : (k : ℕ) → k < length a.breaks → IsStep terms n sizes (before k) (at k)
     unfolding before at
     step k l = (steps k l).step no_break
 
-    low : (k : ℕ) → k < length a.breaks → IsMinimiser terms n (at k).den (sized_shift sizes (at k).num) (before k)
-    low k l = let s = step k l in (minimiser_by (at k) (before k) s.lower (rows k l) (before_places k l) s.lower_is s.lower_attains).0
+    low : (k : ℕ) → k < length a.breaks
+        → IsMinimiser terms n (at k).den (sized_shift sizes (at k).num) (before k)
+    low k l = let s = step k l in (minimiser_by (at k) (before k) s.lower (rows k l)
+        (before_places k l) s.lower_is s.lower_attains).0
 
-    high : (k : ℕ) → k < length a.breaks → IsMinimiser terms n (at k).den (sized_shift sizes (at k).num) (at k).members
-    high k l = let s = step k l in (minimiser_by (at k) (at k).members s.higher (rows k l) (places k l) s.higher_is s.higher_attains).0
+    high : (k : ℕ) → k < length a.breaks
+        → IsMinimiser terms n (at k).den (sized_shift sizes (at k).num) (at k).members
+    high k l = let s = step k l in (minimiser_by (at k) (at k).members s.higher (rows k l)
+        (places k l) s.higher_is s.higher_attains).0
 
-    proves : (k : ℕ) → k < length a.breaks → Prove terms n (at k).den (sized_shift sizes (at k).num) (at k).bases
-    proves k l = let s = step k l in (minimiser_by (at k) (at k).members s.higher (rows k l) (places k l) s.higher_is s.higher_attains).1
+    proves : (k : ℕ) → k < length a.breaks → Prove terms n (at k).den (sized_shift sizes (at k).num)
+        (at k).bases
+    proves k l = let s = step k l in (minimiser_by (at k) (at k).members s.higher (rows k l)
+        (places k l) s.higher_is s.higher_attains).1
 
-    rises : (k : ℕ) → suc k < length a.breaks → IsLowerSlope (at k).num (at k).den (at (suc k)).num (at (suc k)).den
+    rises : (k : ℕ) → suc k < length a.breaks
+        → IsLowerSlope (at k).num (at k).den (at (suc k)).num (at (suc k)).den
     unfolding at
     rises k l = (steps (suc k) l).ascends k no_break refl
 
-    within : (k : ℕ) (t : List Bool) → k < length a.breaks → IsMinimiser terms n (at k).den (sized_shift sizes (at k).num) t → IsWithin (before k) t
+    within : (k : ℕ) (t : List Bool) → k < length a.breaks
+        → IsMinimiser terms n (at k).den (sized_shift sizes (at k).num) t → IsWithin (before k) t
     unfolding before
     within zero t l ht = λ e h. absurd (none_in_empty n e h)
     within (suc k) t l ht =
         let lk : k < length a.breaks = omega (arith, l) in
-        subst (λ z. IsWithin z t) (sym (behind k lk)) (nested (at k).num (at k).den (at (suc k)).num (at (suc k)).den (at k).members t (positive k lk) (positive (suc k) l) (rises k l) (high k lk) ht)
+        subst (λ z. IsWithin z t) (sym (behind k lk))
+        (nested (at k).num (at k).den (at (suc k)).num (at (suc k)).den (at k).members t
+        (positive k lk) (positive (suc k) l) (rises k l) (high k lk) ht)
 
-    module _ (ends : set_before (empty_set n) (map mark_of a.breaks) (length a.breaks) ≡ whole_set n) where
-      has_within : (k : ℕ) (t : List Bool) → k < length a.breaks → IsMinimiser terms n (at k).den (sized_shift sizes (at k).num) t → IsWithin t (at k).members
+    module _ (ends : set_before (empty_set n) (map mark_of a.breaks) (length a.breaks) ≡ whole_set
+        n) where
+      has_within : (k : ℕ) (t : List Bool) → k < length a.breaks
+          → IsMinimiser terms n (at k).den (sized_shift sizes (at k).num) t
+          → IsWithin t (at k).members
       unfolding before
       has_within k t l ht = ⊎_elim
-          (λ more. subst (IsWithin t) (behind k l) (nested (at k).num (at k).den (at (suc k)).num (at (suc k)).den t (before (suc k)) (positive k l) (positive (suc k) more) (rises k more) ht (low (suc k) more)))
+          (λ more. subst (IsWithin t) (behind k l)
+          (nested (at k).num (at k).den (at (suc k)).num (at (suc k)).den t (before (suc k))
+          (positive k l) (positive (suc k) more) (rises k more) ht (low (suc k) more)))
           (λ last.
           let is : length a.breaks ≡ suc k = omega (arith, l, last) in
-          let whole : (at k).members ≡ whole_set n = sym (behind k l) ∙ (ap before (sym is) ∙ ends) in
+          let whole : (at k).members ≡ whole_set n = sym (behind k l)
+          ∙ (ap before (sym is) ∙ ends) in
           subst (IsWithin t) (sym whole) (within_whole n t ht.places))
           (cases_lt (suc k) (length a.breaks))
 
@@ -130,15 +159,18 @@ module _ (terms : List Meaning) (n : ℕ) (sizes : List ℤ) (fit : AreTerms n t
       chain = record {
         each = λ k l.
             let lk : k < length a.breaks = omega (arith, l, length-map a.breaks mark_of) in
-            subst (λ (m : Mark). IsNextSlope terms n sizes (before k) m) (sym (mark_is k lk)) (next k lk);
+            subst (λ (m : Mark). IsNextSlope terms n sizes (before k) m) (sym (mark_is k lk))
+            (next k lk);
         ends = ap before (length-map a.breaks mark_of) ∙ ends;
       }
 
-      proved : (s : ℕ) → s ≢ 0 → s < length (sections_of a) → IsProvedSection terms n sizes (section_at a s)
+      proved : (s : ℕ) → s ≢ 0 → s < length (sections_of a)
+          → IsProvedSection terms n sizes (section_at a s)
       proved zero ne l = absurd (ne refl)
       proved (suc k) ne l =
           let lk : k < length a.breaks = omega (arith, l, length-map a.breaks section_of) in
-          subst (λ (z : Section). IsProvedSection terms n sizes z) (sym (section_is k lk)) (record { bases = rows k lk; proves = proves k lk })
+          subst (λ (z : Section). IsProvedSection terms n sizes z) (sym (section_is k lk))
+          (record { bases = rows k lk; proves = proves k lk })
 
       pub slopes_right : AreRightSlopes terms n sizes a
       slopes_right = record { chain = chain; proved = proved }

@@ -13,17 +13,24 @@ use Rattle.sfm_check.proofs.BlockOrder.{apart, below, class, first_place, joins,
 
 -- the block at i, of the list a, and the block at j, of the list b, have the same places
 abbrev pub IsSameClass : List Block → List Block → ℕ → ℕ → Type 0
-IsSameClass a b i j = (i < length a) × (j < length b) × ((block_at a i).members ≡ (block_at b j).members)
+IsSameClass a b i j = (i < length a) × (j < length b)
+    × ((block_at a i).members ≡ (block_at b j).members)
 
 same_class_back : (a b : List Block) (i j : ℕ) → IsSameClass a b i j → IsSameClass b a j i
 same_class_back a b i j (li, lj, e) = (lj, li, sym e)
 
-module _ (terms : List Meaning) (n : ℕ) (q : ℤ) (shift : List ℤ) (a b : List Block) (ha : AreBlocks terms n q shift a) (hb : AreBlocks terms n q shift b) where
-  within : (i j d : ℕ) → i < length a → j < length b → Has (block_at a i).members d → Has (block_at b j).members d → (e : ℕ) → Has (block_at a i).members e → Has (block_at b j).members e
+module _ (terms : List Meaning) (n : ℕ) (q : ℤ) (shift : List ℤ) (a b : List Block)
+    (ha : AreBlocks terms n q shift a) (hb : AreBlocks terms n q shift b) where
+  within : (i j d : ℕ) → i < length a → j < length b → Has (block_at a i).members d
+      → Has (block_at b j).members d → (e : ℕ) → Has (block_at a i).members e
+      → Has (block_at b j).members e
   unfolding class
-  within i j d li lj hi hj e he = joins terms n q shift b hb j d e lj (below terms n q shift a ha i e li he) hj (together terms n q shift a ha i d e li hi he) (together terms n q shift a ha i e d li he hi)
+  within i j d li lj hi hj e he =
+      joins terms n q shift b hb j d e lj (below terms n q shift a ha i e li he) hj
+      (together terms n q shift a ha i d e li hi he) (together terms n q shift a ha i e d li he hi)
 
-module _ (terms : List Meaning) (n : ℕ) (q : ℤ) (shift : List ℤ) (a b : List Block) (ha : AreBlocks terms n q shift a) (hb : AreBlocks terms n q shift b) where
+module _ (terms : List Meaning) (n : ℕ) (q : ℤ) (shift : List ℤ) (a b : List Block)
+    (ha : AreBlocks terms n q shift a) (hb : AreBlocks terms n q shift b) where
   -- each block of the one list has its like in the other
   like : (i : ℕ) → i < length a → (j : ℕ) × IsSameClass a b i j
   unfolding class
@@ -44,23 +51,28 @@ module _ (terms : List Meaning) (n : ℕ) (q : ℤ) (shift : List ℤ) (a b : Li
         ),
       )
 
-  whole_within : (i j e : ℕ) → IsSameClass a b i j → Has (whole terms n q shift a ha i) e → Has (whole terms n q shift b hb j) e
+  whole_within : (i j e : ℕ) → IsSameClass a b i j → Has (whole terms n q shift a ha i) e
+      → Has (whole terms n q shift b hb j) e
   unfolding class
   whole_within i j e (li, lj, same) has =
       let (d, hd) = ha.some i li in
       let t = whole_to terms n q shift a ha i d e li hd has in
-      let le : e < n = rw (length-whole terms n q shift a ha i li) at (has_below (whole terms n q shift a ha i) e has) in
+      let le : e < n = rw (length-whole terms n q shift a ha i li) at
+      (has_below (whole terms n q shift a ha i) e has) in
       whole_from terms n q shift b hb j d e lj le (subst (λ s. Has s d) same hd) t.0 t.1
 
-module _ (terms : List Meaning) (n : ℕ) (q : ℤ) (shift : List ℤ) (a b : List Block) (ha : AreBlocks terms n q shift a) (hb : AreBlocks terms n q shift b) where
+module _ (terms : List Meaning) (n : ℕ) (q : ℤ) (shift : List ℤ) (a b : List Block)
+    (ha : AreBlocks terms n q shift a) (hb : AreBlocks terms n q shift b) where
   same_weight : (i j : ℕ) → IsSameClass a b i j → size_with_needs a i ≡ size_with_needs b j
   same_weight i j c =
       let la = length-whole terms n q shift a ha i c.0 in
       let lb = length-whole terms n q shift b hb j c.1 in
-      let same : whole terms n q shift a ha i ≡ whole terms n q shift b hb j = same_sets (whole terms n q shift a ha i) (whole terms n q shift b hb j) (la ∙ sym lb)
+      let same : whole terms n q shift a ha i ≡ whole terms n q shift b hb j = same_sets
+      (whole terms n q shift a ha i) (whole terms n q shift b hb j) (la ∙ sym lb)
       (λ e l h. whole_within terms n q shift a b ha hb i j e c h)
       (λ e l h. whole_within terms n q shift b a hb ha j i e (same_class_back a b i j c) h) in
-      sym (size-whole terms n q shift a ha i c.0) ∙ (ap size same ∙ size-whole terms n q shift b hb j c.1)
+      sym (size-whole terms n q shift a ha i c.0)
+      ∙ (ap size same ∙ size-whole terms n q shift b hb j c.1)
 
   -- likes stand in the same order
   same_order : (i j k m : ℕ) → IsSameClass a b i j → IsSameClass a b k m → i < k → j < m
@@ -73,23 +85,28 @@ module _ (terms : List Meaning) (n : ℕ) (q : ℤ) (shift : List ℤ) (a b : Li
       (λ ge. ⊎_elim
       (λ less. absurd (clash x hx y hy less))
       (λ le. let is : j ≡ m = omega arith in
-      let one : (block_at a i).members ≡ (block_at a k).members = c.2 ∙ (ap (λ z. (block_at b z).members) is ∙ sym d.2) in
-      absurd (apart terms n q shift a ha i k x (λ e. omega arith) c.0 d.0 hx (subst (λ s. Has s x) one hx)))
+      let one : (block_at a i).members ≡ (block_at a k).members = c.2
+      ∙ (ap (λ z. (block_at b z).members) is ∙ sym d.2) in
+      absurd (apart terms n q shift a ha i k x (λ e. omega arith) c.0 d.0 hx
+      (subst (λ s. Has s x) one hx)))
       (cases_lt m j))
       (cases_lt j m) where
-        clash : (x : ℕ) → Has (block_at a i).members x → (y : ℕ) → Has (block_at a k).members y → m < j → ⊥
+        clash : (x : ℕ) → Has (block_at a i).members x → (y : ℕ) → Has (block_at a k).members y
+            → m < j → ⊥
         clash x hx y hy less =
             let wi = same_weight i j c in
             let wk = same_weight k m d in
             let (f, first) = first_place (block_at a i).members (x, hx) in
             let (g, second) = first_place (block_at a k).members (y, hy) in
             ⊎_elim
-            (λ p. ⊎_elim (λ r. omega (arith, p, r, wi, wk)) (λ (r, firsts). omega (arith, p, r, wi, wk)) (hb.ordered m j less c.1))
+            (λ p. ⊎_elim (λ r. omega (arith, p, r, wi, wk))
+            (λ (r, firsts). omega (arith, p, r, wi, wk)) (hb.ordered m j less c.1))
             (λ (p, order). ⊎_elim
             (λ r. omega (arith, p, r, wi, wk))
             (λ (r, back).
             let u = order f g first second in
-            let v = back g f (subst (λ s. IsFirst s g) d.2 second) (subst (λ s. IsFirst s f) c.2 first) in
+            let v = back g f (subst (λ s. IsFirst s g) d.2 second)
+            (subst (λ s. IsFirst s f) c.2 first) in
             omega (arith, u, v))
             (hb.ordered m j less c.1))
             (ha.ordered i k l d.0)
@@ -104,7 +121,8 @@ module _ (terms : List Meaning) (n : ℕ) (q : ℤ) (shift : List ℤ) (a b : Li
         let r = same_order i m (suc i) j d c (omega arith) in
         omega (arith, l, r)
 
-module _ (terms : List Meaning) (n : ℕ) (q : ℤ) (shift : List ℤ) (a b : List Block) (ha : AreBlocks terms n q shift a) (hb : AreBlocks terms n q shift b) where
+module _ (terms : List Meaning) (n : ℕ) (q : ℤ) (shift : List ℤ) (a b : List Block)
+    (ha : AreBlocks terms n q shift a) (hb : AreBlocks terms n q shift b) where
   -- the like of a block stands at the same place
   same_place : (i : ℕ) → i < length a → IsSameClass a b i i
   same_place i l =
@@ -115,10 +133,13 @@ module _ (terms : List Meaning) (n : ℕ) (q : ℤ) (shift : List ℤ) (a b : Li
       subst (IsSameClass a b i) is c
 
   not_longer : length a ≤ length b
-  not_longer = ⊎_elim (λ l. let c = same_place (length b) l in let k = c.1 in absurd (omega (arith, k))) (λ ge. ge) (cases_lt (length b) (length a))
+  not_longer = ⊎_elim (λ l. let c = same_place (length b)
+      l in let k = c.1 in absurd (omega (arith, k))) (λ ge. ge) (cases_lt (length b) (length a))
 
-module _ (terms : List Meaning) (n : ℕ) (q : ℤ) (shift : List ℤ) (a b : List Block) (ha : AreBlocks terms n q shift a) (hb : AreBlocks terms n q shift b) where
-  needs_within : (i : ℕ) → i < length a → (x : ℕ) → Contains (block_at a i).needs x → Contains (block_at b i).needs x
+module _ (terms : List Meaning) (n : ℕ) (q : ℤ) (shift : List ℤ) (a b : List Block)
+    (ha : AreBlocks terms n q shift a) (hb : AreBlocks terms n q shift b) where
+  needs_within : (i : ℕ) → i < length a → (x : ℕ) → Contains (block_at a i).needs x
+      → Contains (block_at b i).needs x
   needs_within i li x c =
       let m = ha.numbered i x li c in
       let low = m.0 in
@@ -133,7 +154,8 @@ module _ (terms : List Meaning) (n : ℕ) (q : ℤ) (shift : List ℤ) (a b : Li
       subst
       (Contains (block_at b i).needs)
       (sym is)
-      ((hb.needed i k d e ci.1 ck.1 ne (subst (λ s. Has s d) ci.2 hd) (subst (λ s. Has s e) ck.2 he)).1 p) where
+      ((hb.needed i k d e ci.1 ck.1 ne (subst (λ s. Has s d) ci.2 hd)
+      (subst (λ s. Has s e) ck.2 he)).1 p) where
         less : 1 ≤ x → x ≤ length a → (k : ℕ) × (k < length a) × (x ≡ k + 1)
         less low high = at x low high where
           at : (y : ℕ) → 1 ≤ y → y ≤ length a → (k : ℕ) × (k < length a) × (y ≡ k + 1)
@@ -147,18 +169,24 @@ same_block x y p r =
     ap f p ∙ ap g r
 
 -- the blocks of the minimisers are determined by them
-pub one_blocks : (terms : List Meaning) (n : ℕ) (q : ℤ) (shift : List ℤ) (a b : List Block) → AreBlocks terms n q shift a → AreBlocks terms n q shift b → a ≡ b
-one_blocks terms n q shift a b ha hb = ext_get_or no_block a b count (λ i l. same_block (block_at a i) (block_at b i) (same_place terms n q shift a b ha hb i l).2 (needs i l)) where
-  count : length a ≡ length b
-  count = let p = not_longer terms n q shift a b ha hb in let r = not_longer terms n q shift b a hb ha in omega (arith, p, r)
+pub one_blocks : (terms : List Meaning) (n : ℕ) (q : ℤ) (shift : List ℤ) (a b : List Block)
+    → AreBlocks terms n q shift a → AreBlocks terms n q shift b → a ≡ b
+one_blocks terms n q shift a b ha hb =
+    ext_get_or no_block a b count
+    (λ i l. same_block (block_at a i) (block_at b i) (same_place terms n q shift a b ha hb i l).2
+    (needs i l)) where
+      count : length a ≡ length b
+      count = let p = not_longer terms n q shift a b ha hb in let r = not_longer terms n q shift b a
+          hb
+          ha in omega (arith, p, r)
 
-  needs : (i : ℕ) → i < length a → (block_at a i).needs ≡ (block_at b i).needs
-  needs i l =
-      let lb : i < length b = omega (arith, count) in
-      increasing_same
-      (block_at a i).needs
-      (block_at b i).needs
-      (ha.ascending i l)
-      (hb.ascending i lb)
-      (needs_within terms n q shift a b ha hb i l)
-      (needs_within terms n q shift b a hb ha i lb)
+      needs : (i : ℕ) → i < length a → (block_at a i).needs ≡ (block_at b i).needs
+      needs i l =
+          let lb : i < length b = omega (arith, count) in
+          increasing_same
+          (block_at a i).needs
+          (block_at b i).needs
+          (ha.ascending i l)
+          (hb.ascending i lb)
+          (needs_within terms n q shift a b ha hb i l)
+          (needs_within terms n q shift b a hb ha i lb)

@@ -13,7 +13,8 @@ use Rattle.sfm_kind.specs.Limits.{AreInBounds}
 use Rattle.sfm_kind.specs.Kinds.{kind_places, kind_size, kind_value, kind-bounded}
 
 pub sum_small : (ts : List Kind) (s : List Bool) → IsAllowed (meanings kind_places kind_value ts) s
-    → (neg_ℤ (total_of (map kind_size ts)) ≤ℤ sum_at (meanings kind_places kind_value ts) s) × (sum_at (meanings kind_places kind_value ts) s ≤ℤ total_of (map kind_size ts))
+    → (neg_ℤ (total_of (map kind_size ts)) ≤ℤ sum_at (meanings kind_places kind_value ts) s)
+    × (sum_at (meanings kind_places kind_value ts) s ≤ℤ total_of (map kind_size ts))
 sum_small [] s allowed = (omega (arith, ints), omega (arith, ints))
 sum_small (t ∷ ts) s allowed =
     let (a, e) = some_of (kind_value t (part (kind_places t) s)) allowed.0 in
@@ -23,7 +24,10 @@ sum_small (t ∷ ts) s allowed =
     (omega (arith, ints, b, r, v), omega (arith, ints, b, r, v))
 
 -- the value at 0/1 of an allowed set
-pub value_small : (n : ℕ) (sizes : List ℤ) (ts : List Kind) (s : List Bool) → AreInBounds n ts → IsAllowed (meanings kind_places kind_value ts) s → IsEntry (shifted_at (meanings kind_places kind_value ts) (pos 1) (sized_shift sizes (pos 0)) s)
+pub value_small : (n : ℕ) (sizes : List ℤ) (ts : List Kind) (s : List Bool) → AreInBounds n ts
+    → IsAllowed (meanings kind_places kind_value ts) s
+    → IsEntry (shifted_at (meanings kind_places kind_value ts) (pos 1) (sized_shift sizes (pos 0))
+    s)
 value_small n sizes ts s bounded allowed =
     let r = sum_small ts s allowed in
     let z = shifted-sized (meanings kind_places kind_value ts) sizes (pos 0) (pos 1) s in

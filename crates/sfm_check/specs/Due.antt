@@ -11,4 +11,12 @@ abbrev pub break_at : Mark → Break
 break_at m = record { num = m.num; den = m.den; members = m.members; bases = [] }
 
 abbrev pub due_answer : Proved → List Block → List Mark → Answer
-due_answer found blocks marks = record { value = found.value; least = found.least; greatest = found.greatest; blocks = map block_of blocks; bases = []; breaks = map break_at marks }
+due_answer found blocks marks =
+    record {
+      value = found.value;
+      least = found.least;
+      greatest = found.greatest;
+      blocks = map block_of blocks;
+      bases = [];
+      breaks = map break_at marks;
+    }

@@ -30,7 +30,8 @@ IsShort o = length (answer_lines (form_of o.instance.now) (said o)) ≤ answer_l
 abbrev pub of_offer : {A : Type 1} → (List Meaning → ℕ → List ℤ → Answer → A) → Offer → A
 of_offer P o = P (meant o) (elements o) o.sizes.now (said o)
 
--- what is said of terms, of so many elements with their sizes and of a section, said of section s of an offer
+-- what is said of terms, of so many elements with their sizes and of a section, said of section s
+-- of an offer
 abbrev pub of_section : {A : Type 1} → (List Meaning → ℕ → List ℤ → Section → A) → Offer → ℕ → A
 of_section P o s = P (meant o) (elements o) o.sizes.now (section_at (said o) s)
 

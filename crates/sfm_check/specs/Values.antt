@@ -10,7 +10,8 @@ use Rattle.sfm_check.specs.Findings.{IsFullChain, set_before}
 use Rattle.sfm_check.specs.declared.worth.Worth.{Worth}
 
 -- the set is allowed, with so many places, of those sizes together, and with that sum of all terms
-pub record IsWorth (terms : List Meaning) (sizes : List ℤ) (s : List Bool) (w : Worth) : Type 0 where
+pub record IsWorth (terms : List Meaning) (sizes : List ℤ) (s : List Bool) (w : Worth) : Type
+    0 where
   pub allowed : IsAllowed terms s
   pub size : w.size ≡ size s
   pub weight : w.weight ≡ sum_over s sizes
@@ -24,10 +25,12 @@ pub record IsSmall (w : Worth) : Type 0 where
 
 -- q times the sum, less p for each unit of size, is the sum of min(z, 0) at the bases of the slope
 abbrev pub Attains : List Meaning → ℕ → List ℤ → Break → Worth → Type 0
-Attains terms n sizes b w = (b.den *ℤ w.sum -ℤ b.num *ℤ w.weight) ≡ deficit n (rest_at terms b.bases (sized_shift sizes b.num))
+Attains terms n sizes b w = (b.den *ℤ w.sum -ℤ b.num *ℤ w.weight) ≡ deficit n
+    (rest_at terms b.bases (sized_shift sizes b.num))
 
 -- the set before and that of the slope, a larger one, attain what the bases of the slope bound
-pub record IsStep (terms : List Meaning) (n : ℕ) (sizes : List ℤ) (before : List Bool) (b : Break) : Type 0 where
+pub record IsStep (terms : List Meaning) (n : ℕ) (sizes : List ℤ) (before : List Bool)
+    (b : Break) : Type 0 where
   pub lower : Worth
   pub higher : Worth
   pub lower_is : IsWorth terms sizes before lower
@@ -38,14 +41,21 @@ pub record IsStep (terms : List Meaning) (n : ℕ) (sizes : List ℤ) (before : 
 
 -- the slope before slope k, where there is one, is lower
 abbrev pub Ascends : List Break → ℕ → Type 0
-Ascends breaks k = (j : ℕ) (d : Break) → suc j ≡ k → IsLowerSlope (slice_index_or breaks j d).num (slice_index_or breaks j d).den (slice_index_or breaks k d).num (slice_index_or breaks k d).den
+Ascends breaks k = (j : ℕ) (d : Break) → suc j ≡ k
+    → IsLowerSlope (slice_index_or breaks j d).num (slice_index_or breaks j d).den
+    (slice_index_or breaks k d).num (slice_index_or breaks k d).den
 
--- slope k stands above the one before, and its bases bound what the sets before and behind it attain
-pub record IsStepAt (terms : List Meaning) (n : ℕ) (sizes : List ℤ) (a : Answer) (k : ℕ) : Type 0 where
+-- slope k stands above the one before, and its bases bound what the sets before and behind it
+-- attain
+pub record IsStepAt (terms : List Meaning) (n : ℕ) (sizes : List ℤ) (a : Answer) (k : ℕ) : Type
+    0 where
   pub ascends : Ascends a.breaks k
-  pub step : (d : Break) → IsStep terms n sizes (set_before (empty_set n) (map mark_of a.breaks) k) (slice_index_or a.breaks k d)
+  pub step : (d : Break) → IsStep terms n sizes (set_before (empty_set n) (map mark_of a.breaks) k)
+      (slice_index_or a.breaks k d)
 
 -- each slope is the next one, up to the whole set, and its bases prove
-pub record AreRightSlopes (terms : List Meaning) (n : ℕ) (sizes : List ℤ) (a : Answer) : Type 0 where
+pub record AreRightSlopes (terms : List Meaning) (n : ℕ) (sizes : List ℤ) (a : Answer) : Type
+    0 where
   pub chain : IsFullChain terms n sizes (map mark_of a.breaks)
-  pub proved : (s : ℕ) → s ≢ 0 → s < length (sections_of a) → IsProvedSection terms n sizes (section_at a s)
+  pub proved : (s : ℕ) → s ≢ 0 → s < length (sections_of a)
+      → IsProvedSection terms n sizes (section_at a s)

@@ -59,7 +59,8 @@ LeavesAbove h x = (w : ℕ) → w < length x → pos 0 ≤ℤ slack h x (above (
 
 -- the bar is the greatest entry of a place that blocks u, if there is one
 abbrev pub IsBar : (ℕ → ℤ) → List ℤ → ℕ → Option ℤ → Type 0
-IsBar h x u bar = (a : ℤ) → IsOver bar a ↔ ((w : ℕ) → Blocks h x u w → slice_index_or x w (pos 0) <ℤ a)
+IsBar h x u bar = (a : ℤ) → IsOver bar a
+    ↔ ((w : ℕ) → Blocks h x u w → slice_index_or x w (pos 0) <ℤ a)
 
 -- a count and a sum are those of a set
 pub record IsShareOf (count : ℕ) (sum : ℤ) (x : List ℤ) (s : List Bool) : Type 0 where

@@ -1,4 +1,5 @@
--- The pieces of the text as the code writes them: names, for which nothing is drawn, numbers, and the lines of all terms.
+-- The pieces of the text as the code writes them: names, for which nothing is drawn, numbers, and
+-- the lines of all terms.
 use Rattle.std.specs.Prelude.{◌≡◌, ℕ, List, ◌∷◌, ◌++◌, ℤ, pos}
 use Rattle.std.specs.Fmt.{signed_decimal}
 use Rattle.std.specs.List.{flat_map}
@@ -32,7 +33,8 @@ abbrev pub first_lines : Drawing (List ℕ)
 first_lines = lines 100 Cut >> lines 20 Need >> lines 20 Cover >> lines 10 Concave
 
 abbrev pub last_lines : Drawing (List ℕ)
-last_lines = lines 5 Uniform >> lines 5 Laminar >> lines 5 Graphic >> lines 5 Transversal >> lines 5 Table
+last_lines = lines 5 Uniform >> lines 5 Laminar >> lines 5 Graphic >> lines 5 Transversal >> lines 5
+    Table
 
 unfoldable pub term_lines : Drawing (List ℕ)
 term_lines = first_lines >> last_lines

@@ -10,9 +10,16 @@ use Rattle.sfm_due.specs.Demo.{demo_line, IsDemoed}
 use Rattle.sfm_due.specs.Solving.{IsTrueAnswer}
 
 -- the line of a true answer
-pub demoed : (seed : ℕ) (written : List ℕ) (instance : InstanceData) (s : Solved) → IsTrueAnswer instance (ones (length instance.names)) (answer_of s) → written ≡ demo_line seed (answer_of s) → IsDemoed seed (question_of instance) written
+pub demoed : (seed : ℕ) (written : List ℕ) (instance : InstanceData) (s : Solved)
+    → IsTrueAnswer instance (ones (length instance.names)) (answer_of s)
+    → written ≡ demo_line seed (answer_of s) → IsDemoed seed (question_of instance) written
 demoed seed written instance s h named = record {
   file = answer_text (form_of instance) (answer_of s);
-  right = record { answer = answer_of s; is_text = record { formed = h.formed; written = refl }; head = h.head; sections = h.sections };
+  right = record {
+    answer = answer_of s;
+    is_text = record { formed = h.formed; written = refl };
+    head = h.head;
+    sections = h.sections;
+  };
   named = named;
 }

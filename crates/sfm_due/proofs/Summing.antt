@@ -19,13 +19,15 @@ use Rattle.sfm_due.specs.Sums.{PassesAt}
 
 -- one term more
 size-suc : (terms : List Kind) (i : ℕ) (term : Kind) → i < length terms
-    → total_size_of (take (suc i) terms) ≡ (total_size_of (take i terms) +ℤ kind_size (get_or terms i term))
+    → total_size_of (take (suc i) terms)
+    ≡ (total_size_of (take i terms) +ℤ kind_size (get_or terms i term))
 size-suc [] i term l = absurd (omega arith)
 size-suc (t ∷ terms) zero term l = omega (arith, ints)
 size-suc (t ∷ terms) (suc i) term l = omega (arith, ints, size-suc terms i term (omega (arith, l)))
 
 pub size-next : (terms : List Kind) (i : ℕ) (term : Kind) → i < length terms
-    → total_size_of (take (i + 1) terms) ≡ (total_size_of (take i terms) +ℤ kind_size (get_or terms i term))
+    → total_size_of (take (i + 1) terms)
+    ≡ (total_size_of (take i terms) +ℤ kind_size (get_or terms i term))
 size-next terms i term l =
     let one : i + 1 ≡ suc i = omega arith in
     rw one (size-suc terms i term l)
@@ -53,7 +55,8 @@ turn terms i term is l small = record {
 }
 
 -- the first terms by what they mean
-pub first-sizes : (terms : List Kind) (meant : List Meaning) (i : ℕ) → AllZip IsMeaningOf terms meant
+pub first-sizes : (terms : List Kind) (meant : List Meaning) (i : ℕ)
+    → AllZip IsMeaningOf terms meant
     → total_by (take i terms) meant ≡ total_size_of (take i terms)
 first-sizes terms meant zero h = refl
 first-sizes [] meant (suc i) h = refl
@@ -62,11 +65,13 @@ first-sizes (kind ∷ terms) (term ∷ meant) (suc i) h =
     omega (arith, ints, kind-size kind term.value h.0.values, first-sizes terms meant i h.1)
 
 -- more of the first terms have no less
-pub first-more : (terms : List Kind) (i j : ℕ) → i ≤ j → total_size_of (take i terms) ≤ℤ total_size_of (take j terms)
+pub first-more : (terms : List Kind) (i j : ℕ) → i ≤ j
+    → total_size_of (take i terms) ≤ℤ total_size_of (take j terms)
 first-more terms zero j le = total_size-low (take j terms)
 first-more terms (suc i) zero le = absurd (omega (arith, le))
 first-more [] (suc i) (suc j) le = omega (arith, ints)
-first-more (t ∷ terms) (suc i) (suc j) le = omega (arith, ints, first-more terms i j (omega (arith, le)))
+first-more (t ∷ terms) (suc i) (suc j) le =
+    omega (arith, ints, first-more terms i j (omega (arith, le)))
 
 -- the line at which the terms of a text pass the limit is that at which the text is too large
 pub too-large : (text : List ℕ) (instance : InstanceData) (ground : ℕ) (lines : List ℕ) (line : ℕ)
@@ -80,7 +85,8 @@ too-large text instance ground lines line good numbered h = (
     line_is = h.line_is;
     holds = rw (first-sizes instance.terms (meanings_of instance.terms) (h.i + 1) means) h.more;
     before = λ j l over.
-        let o = rw (first-sizes instance.terms (meanings_of instance.terms) (j + 1) means) at over in
+        let o = rw (first-sizes instance.terms (meanings_of instance.terms) (j + 1) means) at
+        over in
         let m = first-more instance.terms (j + 1) h.i (omega (arith, l)) in
         let b = h.before in
         omega (arith, ints, o, m, b);

@@ -22,7 +22,8 @@ abbrev pub IsStopped : (before after : ShelfState) → Status → Type 0
 IsStopped before after status = ((status ≡ ReadFault) × IsFault before after) ⊎ (status ≡ Memory)
 
 -- one read of at most so many bytes, with which a reader was fed
-pub record FeedsOn (before : ShelfState) (old : Reader) (most : ℕ) (result : Result ℕ Status) (new : Reader) (after : ShelfState) : Type 0 where
+pub record FeedsOn (before : ShelfState) (old : Reader) (most : ℕ) (result : Result ℕ Status)
+    (new : Reader) (after : ShelfState) : Type 0 where
   pub kept : KeepsShelf [] before after
   pub small : IfOk result (λ count. count ≤ most)
   pub fed : IfOk result (λ count. Feeds before after old new count)
@@ -31,14 +32,19 @@ pub record FeedsOn (before : ShelfState) (old : Reader) (most : ℕ) (result : R
 
 -- the bytes are the rest of the open text, or its front up to one byte past the limit
 abbrev pub AreRest : (before after : ShelfState) → List ℕ → Type 0
-AreRest before after bytes = ((length bytes ≤ text_limit) × IsRest before bytes after) ⊎ ((text_limit < length bytes) × IsLong before text_limit after)
+AreRest before after bytes = ((length bytes ≤ text_limit) × IsRest before bytes after)
+    ⊎ ((text_limit < length bytes) × IsLong before text_limit after)
 
--- a reader was fed with the rest of the open text, or with its front up to one byte past the limit, or that could not be
+-- a reader was fed with the rest of the open text, or with its front up to one byte past the limit,
+-- or that could not be
 abbrev pub FeedsOpen : (before after : ShelfState) → Result Reader Status → Type 0
-FeedsOpen before after (Ok reader) = (bytes : List ℕ) × Stands reader bytes × AreRest before after bytes
+FeedsOpen before after (Ok reader) = (bytes : List ℕ) × Stands reader bytes
+    × AreRest before after bytes
 FeedsOpen before after (Err status) = IsStopped before after status
 
 -- a reader stands for the text of that name, or that could not be read
 abbrev pub FeedsText : List ℕ → (before after : ShelfState) → Result Reader Status → Type 0
-FeedsText name before after (Ok reader) = (text : List ℕ) × Stands reader text × IsNamed before name text × WasRead before after text_limit text
-FeedsText name before after (Err status) = ((status ≡ ReadFault) × MissesText name before after) ⊎ (status ≡ Memory)
+FeedsText name before after (Ok reader) = (text : List ℕ) × Stands reader text
+    × IsNamed before name text × WasRead before after text_limit text
+FeedsText name before after (Err status) = ((status ≡ ReadFault) × MissesText name before after)
+    ⊎ (status ≡ Memory)

@@ -1,5 +1,5 @@
--- The meanings that the terms of an instance tell of themselves, and the question that they make, of which the contracts of
--- the program's parts speak.
+-- The meanings that the terms of an instance tell of themselves, and the question that they make,
+-- of which the contracts of the program's parts speak.
 use Rattle.std.specs.Prelude.{List}
 use Rattle.sfm_spec.specs.Families.{Meaning, meanings}
 use Rattle.sfm_kind.specs.Meanings.{kind_places}

@@ -1,5 +1,5 @@
--- What a call gives that opens nothing: a text that is due, with the status that goes with it, or that memory ran out; and what is due,
--- as the calls name it.
+-- What a call gives that opens nothing: a text that is due, with the status that goes with it, or
+-- that memory ran out; and what is due, as the calls name it.
 use Rattle.std.specs.Prelude.{◌≡◌, ◌⊎◌, ℕ, ◌+◌, List, length, take, codes, ℤ, ◌≤ℤ◌, ◌<ℤ◌}
 use Rattle.sfm_kind.specs.Meanings.{total_by}
 use Rattle.sfm_lines.specs.declared.reason.Reason.{Reason}
@@ -32,11 +32,13 @@ IsWeighed asked sizes file = IsSolvedBy (codes "weighed 1") sizes asked file
 
 -- the written text, with this code, is the verdict on the answer where each element has its size
 abbrev pub IsJudgedBySizes : Question → List ℤ → List ℕ → List ℕ → ℕ → Type 0
-IsJudgedBySizes asked sizes answer written code = IsJudgedBy (codes "weighed 1") sizes asked answer written code
+IsJudgedBySizes asked sizes answer written code =
+    IsJudgedBy (codes "weighed 1") sizes asked answer written code
 
 -- the written text is that of a most level base, with bases of the terms that add up to it
 abbrev pub IsLevelled : Question → List ℕ → Type 0
-IsLevelled asked written = IsLevelText asked.instance.lines asked.meant (length asked.instance.names) written
+IsLevelled asked written = IsLevelText asked.instance.lines asked.meant
+    (length asked.instance.names) written
 
 -- what is asked is of sizes for which its most level base is found
 abbrev pub IsSmallEnough : Question → Type 0
@@ -45,4 +47,5 @@ IsSmallEnough asked = total_by asked.instance.terms asked.meant ≤ℤ level_lim
 -- the first line of a text with which the sizes of the terms add to more
 abbrev pub IsTooLarge : List ℕ → ℕ → Type 0
 IsTooLarge text line = (side : Lined) × IsLined text side
-    × IsFirstLine (λ i. level_limit <ℤ total_by (take (i + 1) side.asked.instance.terms) side.asked.meant) side.lines line
+    × IsFirstLine (λ i. level_limit <ℤ total_by (take (i + 1) side.asked.instance.terms)
+    side.asked.meant) side.lines line

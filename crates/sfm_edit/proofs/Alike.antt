@@ -1,5 +1,5 @@
--- Two instances under edits that differ only in how their terms are kept: no reason tells them apart, and a line leads from two
--- such to two such.
+-- Two instances under edits that differ only in how their terms are kept: no reason tells them
+-- apart, and a line leads from two such to two such.
 use Rattle.std.proofs.Common.{◌≡◌, ◌≢◌, inl, inr, ℕ, zero, suc, ◌+◌, ◌-◌, ◌<◌, List, [], ◌∷◌, ◌++◌, length, take, drop, codes, replicate, Option, None, AllPairs, pos, refl, sym, ap, subst, ◌∙◌, arith}
 use Rattle.std.specs.List.{AllZip, remove}
 use Rattle.std.proofs.lemmas.Int.{ints}
@@ -42,7 +42,14 @@ same-terms (term ∷ terms) = (one-term term, same-terms terms)
 
 pub alike-itself : (e : Editing) → AllPairs (λ a b. a ≢ b) e.instance.names → AreAlike e e
 alike-itself e distinct = record {
-  instance = record { stage = refl; version = refl; names = refl; terms = same-terms e.instance.terms; lines = refl; distinct = distinct };
+  instance = record {
+    stage = refl;
+    version = refl;
+    names = refl;
+    terms = same-terms e.instance.terms;
+    lines = refl;
+    distinct = distinct;
+  };
   kept = refl;
 }
 
@@ -50,8 +57,12 @@ alike-itself e distinct = record {
 
 added-alike : (e f : Editing) (tokens : List (List ℕ)) (reason : Reason) → AreAlike e f
     → HasAdded e.instance tokens reason → HasAdded f.instance tokens reason
-added-alike e f tokens reason same (rest, is, h) =
-    (rest, is, term-alike (state_at Terms e.instance) (state_at Terms f.instance) rest reason same.instance h)
+added-alike e f tokens reason same (rest, is, h) = (
+  rest,
+  is,
+  term-alike (state_at Terms e.instance) (state_at Terms f.instance) rest reason
+      same.instance h,
+)
 
 -- what a line has over the one, it has over the other
 pub has-alike : (e f : Editing) (tokens : List (List ℕ)) (reason : Reason) → AreAlike e f
@@ -73,76 +84,97 @@ has-alike e f tokens Short same h = added-alike e f tokens Short same h
 
 -- ---- what a line leads to
 
-AllZip-take : {X Y : Type 0} (R : X → Y → Type 0) (n : ℕ) (xs : List X) (ys : List Y) → AllZip R xs ys → AllZip R (take n xs) (take n ys)
+AllZip-take : {X Y : Type 0} (R : X → Y → Type 0) (n : ℕ) (xs : List X) (ys : List Y)
+    → AllZip R xs ys → AllZip R (take n xs) (take n ys)
 AllZip-take R zero xs ys h = tt
 AllZip-take R (suc n) [] [] h = tt
 AllZip-take R (suc n) [] (y ∷ ys) h = absurd h
 AllZip-take R (suc n) (x ∷ xs) [] h = absurd h
 AllZip-take R (suc n) (x ∷ xs) (y ∷ ys) h = (h.0, AllZip-take R n xs ys h.1)
 
-AllZip-drop : {X Y : Type 0} (R : X → Y → Type 0) (n : ℕ) (xs : List X) (ys : List Y) → AllZip R xs ys → AllZip R (drop n xs) (drop n ys)
+AllZip-drop : {X Y : Type 0} (R : X → Y → Type 0) (n : ℕ) (xs : List X) (ys : List Y)
+    → AllZip R xs ys → AllZip R (drop n xs) (drop n ys)
 AllZip-drop R zero xs ys h = h
 AllZip-drop R (suc n) [] [] h = tt
 AllZip-drop R (suc n) [] (y ∷ ys) h = absurd h
 AllZip-drop R (suc n) (x ∷ xs) [] h = absurd h
 AllZip-drop R (suc n) (x ∷ xs) (y ∷ ys) h = AllZip-drop R n xs ys h.1
 
-without-alike : (e f : Editing) (i : ℕ) → AreAlike e f → AreAlike (without_line e i) (without_line f i)
+without-alike : (e f : Editing) (i : ℕ) → AreAlike e f
+    → AreAlike (without_line e i) (without_line f i)
 without-alike e f i same =
     let lines = same.instance.lines in
     let first = terms_in (take i e.instance.lines) in
     let next = terms_in (take (suc i) e.instance.lines) in
-    let terms : AllZip AreOneTerm (without_terms e.instance.lines i e.instance.terms) (without_terms e.instance.lines i f.instance.terms) =
-    AllZip-append AreOneTerm (take first e.instance.terms) (drop next e.instance.terms) (take first f.instance.terms) (drop next f.instance.terms)
-    (AllZip-take AreOneTerm first e.instance.terms f.instance.terms same.instance.terms) (AllZip-drop AreOneTerm next e.instance.terms f.instance.terms same.instance.terms) in
+    let terms : AllZip AreOneTerm (without_terms e.instance.lines i e.instance.terms)
+    (without_terms e.instance.lines i f.instance.terms) =
+    AllZip-append AreOneTerm (take first e.instance.terms) (drop next e.instance.terms)
+    (take first f.instance.terms) (drop next f.instance.terms)
+    (AllZip-take AreOneTerm first e.instance.terms f.instance.terms same.instance.terms)
+    (AllZip-drop AreOneTerm next e.instance.terms f.instance.terms same.instance.terms) in
     record {
       instance = record {
         stage = refl;
         version = same.instance.version;
         names = same.instance.names;
-        terms = subst (λ (l : List ℕ). AllZip AreOneTerm (without_terms e.instance.lines i e.instance.terms) (without_terms l i f.instance.terms)) lines terms;
+        terms = subst (λ (l : List ℕ).
+            AllZip AreOneTerm (without_terms e.instance.lines i e.instance.terms)
+            (without_terms l i f.instance.terms)) lines terms;
         lines = ap (λ (l : List ℕ). remove l i) lines;
         distinct = same.instance.distinct;
       };
-      kept = ap (λ (l : List ℕ). without_terms l i e.kept) lines ∙ ap (without_terms f.instance.lines i) same.kept;
+      kept = ap (λ (l : List ℕ). without_terms l i e.kept) lines
+          ∙ ap (without_terms f.instance.lines i) same.kept;
     }
 
 drops-alike : (e f : Editing) (tokens : List (List ℕ)) (a b : Editing) → AreAlike e f
     → Drops e tokens a → Drops f tokens b → AreAlike a b
-drops-alike e f tokens a b same (text, i, is, (lt, number), to) (text', i', is', (lt', number'), to') =
-    let rest : text ∷ [] ≡ text' ∷ [] = same-rest (codes "drop") (text ∷ []) (text' ∷ []) (sym is.0 ∙ is'.0) in
+drops-alike e f tokens a b same (text, i, is, (lt, number), to)
+    (text', i', is', (lt', number'), to') =
+    let rest : text ∷ [] ≡ text' ∷ [] = same-rest (codes "drop") (text ∷ []) (text' ∷ [])
+    (sym is.0 ∙ is'.0) in
     let one : text ≡ text' = cc in
-    let value : pos (i + 1) ≡ pos (i' + 1) = number-same text' (pos (i + 1)) (pos (i' + 1)) (subst (λ (t : List ℕ). IsNumber t (pos (i + 1))) one number) number' in
+    let value : pos (i + 1) ≡ pos (i' + 1) = number-same text' (pos (i + 1)) (pos (i' + 1))
+    (subst (λ (t : List ℕ). IsNumber t (pos (i + 1))) one number) number' in
     let place : i ≡ i' = omega (arith, ints, value) in
     let second : b ≡ without_line f i = to' ∙ ap (without_line f) (sym place) in
     rw (to, second) (without-alike e f i same)
 
 adds-alike : (e f : Editing) (tokens : List (List ℕ)) (a b : Editing) → AreAlike e f
     → AddsLine e tokens a → AddsLine f tokens b → AreAlike a b
-adds-alike e f tokens a b same (rest, is, (s, v, says, xs, are, to), kept) (rest', is', (t, w, says', ys, are', to'), kept') =
+adds-alike e f tokens a b same (rest, is, (s, v, says, xs, are, to), kept)
+    (rest', is', (t, w, says', ys, are', to'), kept') =
     let one : rest' ≡ rest = same-rest (codes "add") rest' rest (sym is' ∙ is) in
-    let second : Says e.instance.version e.instance.names rest t w = rw (one, ← same.instance.version, ← same.instance.names) at says' in
-    let (agree, weights, counts) = lines-same e.instance.version e.instance.names rest s t v w xs ys same.instance.distinct says second are are' in
-    let more : length a.instance.terms - length e.instance.terms ≡ length xs = grown-by e.instance.terms xs a.instance.terms (ap (λ (u : State). u.terms) to) in
-    let more' : length b.instance.terms - length f.instance.terms ≡ length ys = grown-by f.instance.terms ys b.instance.terms (ap (λ (u : State). u.terms) to') in
+    let second : Says e.instance.version e.instance.names rest t
+    w = rw (one, ← same.instance.version, ← same.instance.names) at says' in
+    let (agree, weights, counts) = lines-same e.instance.version e.instance.names rest s t v w xs ys
+    same.instance.distinct says second are are' in
+    let more : length a.instance.terms - length e.instance.terms ≡ length xs = grown-by
+    e.instance.terms xs a.instance.terms (ap (λ (u : State). u.terms) to) in
+    let more' : length b.instance.terms - length f.instance.terms ≡ length ys = grown-by
+    f.instance.terms ys b.instance.terms (ap (λ (u : State). u.terms) to') in
     record {
       instance = rw (to, to') (record {
         stage = refl;
         version = same.instance.version;
         names = same.instance.names;
-        terms = AllZip-append AreOneTerm e.instance.terms xs f.instance.terms ys same.instance.terms agree;
+        terms = AllZip-append AreOneTerm e.instance.terms xs f.instance.terms ys same.instance.terms
+            agree;
         lines = rw (same.instance.lines, weights, counts) refl;
         distinct = same.instance.distinct;
       });
-      kept = kept ∙ (ap (λ (l : List (Option ℕ)). l ++ replicate (length a.instance.terms - length e.instance.terms) None) same.kept
+      kept = kept ∙ (ap (λ (l : List (Option ℕ)).
+          l ++ replicate (length a.instance.terms - length e.instance.terms) None) same.kept
           ∙ (ap (λ n. f.kept ++ replicate n None) (more ∙ (counts ∙ sym more')) ∙ sym kept'));
     }
 
 pub edits-alike : (e f : Editing) (tokens : List (List ℕ)) (a b : Editing) → AreAlike e f
     → Edits e tokens a → Edits f tokens b → AreAlike a b
 edits-alike e f tokens a b same (inl h) (inl g) = drops-alike e f tokens a b same h g
-edits-alike e f tokens a b same (inl h) (inr g) = absurd (drop-no-add (h.0 ∷ []) g.0 (sym h.2.0 ∙ g.1))
-edits-alike e f tokens a b same (inr g) (inl h) = absurd (drop-no-add (h.0 ∷ []) g.0 (sym h.2.0 ∙ g.1))
+edits-alike e f tokens a b same (inl h) (inr g) =
+    absurd (drop-no-add (h.0 ∷ []) g.0 (sym h.2.0 ∙ g.1))
+edits-alike e f tokens a b same (inr g) (inl h) =
+    absurd (drop-no-add (h.0 ∷ []) g.0 (sym h.2.0 ∙ g.1))
 edits-alike e f tokens a b same (inr h) (inr g) = adds-alike e f tokens a b same h g
 
 -- the end is no edit

@@ -1,5 +1,5 @@
--- The walks over an edited instance begin at bases of its terms with small entries, and the bases that proved the minimum of
--- the old instance will do.
+-- The walks over an edited instance begin at bases of its terms with small entries, and the bases
+-- that proved the minimum of the old instance will do.
 use Rattle.std.proofs.Common.{◌≡◌, ℕ, zero, suc, ◌+◌, ◌<◌, ◌≤◌, ◌^◌, List, [], ◌∷◌, ◌++◌, length, map, get_or, take, slice_get, Option, Some, None, ℤ, pos, ◌≤ℤ◌, refl, sym, ap, subst, ◌∙◌, arith}
 use Rattle.std.specs.Prelude.{zip}
 use Rattle.std.specs.List.{All}
@@ -27,7 +27,8 @@ firsts-more kinds kept rows j kind count lt =
     let first = λ (pair : Kind × Option ℕ). first_of rows pair.0 pair.1 in
     let within : j < length (zip kinds kept) = omega (arith, lt, count, length-zip kinds kept) in
     map_more first (zip kinds kept) j (kind, None) within
-    ∙ ap (λ (pair : Kind × Option ℕ). map first (take j (zip kinds kept)) ++ first pair ∷ []) (get_or-zip kinds kept j (kind, None) lt (omega (arith, lt, count)))
+    ∙ ap (λ (pair : Kind × Option ℕ). map first (take j (zip kinds kept)) ++ first pair ∷ [])
+    (get_or-zip kinds kept j (kind, None) lt (omega (arith, lt, count)))
 
 -- all of them
 pub firsts-all : (kinds : List Kind) (kept : List (Option ℕ)) (rows : List (List ℤ)) (j : ℕ)
@@ -35,7 +36,8 @@ pub firsts-all : (kinds : List Kind) (kept : List (Option ℕ)) (rows : List (Li
     → map (λ (pair : Kind × Option ℕ). first_of rows pair.0 pair.1) (take j (zip kinds kept))
     ≡ firsts_of kinds kept rows
 firsts-all kinds kept rows j count le =
-    ap (map (λ (pair : Kind × Option ℕ). first_of rows pair.0 pair.1)) (take_all j (zip kinds kept) (omega (arith, le, count, length-zip kinds kept)))
+    ap (map (λ (pair : Kind × Option ℕ). first_of rows pair.0 pair.1))
+    (take_all j (zip kinds kept) (omega (arith, le, count, length-zip kinds kept)))
 
 -- the old bases of the terms behind the first
 old-rest : (kind : Kind) (kinds : List Kind) (origin : Option ℕ) (kept : List (Option ℕ))
@@ -50,19 +52,29 @@ pub firsts-bases : (kinds : List Kind) (kept : List (Option ℕ)) (rows : List (
 firsts-bases [] kept rows count h = tt
 firsts-bases (kind ∷ kinds) [] rows count h = absurd (omega (arith, count))
 firsts-bases (kind ∷ kinds) (None ∷ kept) rows count h =
-    let start = kind-starts kind (pos 1) (omega (arith, ints)) in
-    (start.0, start.1, firsts-bases kinds kept rows (omega (arith, count)) (old-rest kind kinds None kept rows h))
+    let start = kind-starts kind (pos 1) (omega (arith, ints)) in (
+      start.0,
+      start.1,
+      firsts-bases kinds kept rows (omega (arith, count))
+          (old-rest kind kinds None kept rows h),
+    )
 firsts-bases (kind ∷ kinds) (Some i ∷ kept) rows count h =
-    let old = h 0 i kind refl refl in
-    (old.entries, old.base, firsts-bases kinds kept rows (omega (arith, count)) (old-rest kind kinds (Some i) kept rows h))
+    let old = h 0 i kind refl refl in (
+      old.entries,
+      old.base,
+      firsts-bases kinds kept rows (omega (arith, count))
+          (old-rest kind kinds (Some i) kept rows h),
+    )
 
 -- of small entries
 small-start : (kind : Kind) → kind_size kind ≤ℤ pos (10 ^ 18)
     → All (IsAtMost (10 ^ 25)) (kind_start kind (pos 1))
 small-start kind h =
     let one : IsFactor (pos 1) = record { low = omega (arith, ints); high = omega (arith, ints) } in
-    let rows = starts_within kind_size kind_start (pos 1) (λ k. kind-starts_small k (pos 1) (omega (arith, ints))) one (kind ∷ [])
-    (All-cons (λ k. kind_size k ≤ℤ pos (10 ^ 18)) kind [] h (All-nil (λ k. kind_size k ≤ℤ pos (10 ^ 18)))) in
+    let rows = starts_within kind_size kind_start (pos 1)
+    (λ k. kind-starts_small k (pos 1) (omega (arith, ints))) one (kind ∷ [])
+    (All-cons (λ k. kind_size k ≤ℤ pos (10 ^ 18)) kind [] h
+    (All-nil (λ k. kind_size k ≤ℤ pos (10 ^ 18)))) in
     All-head (λ row. All (IsAtMost (10 ^ 25)) row) (kind_start kind (pos 1)) [] rows
 
 pub firsts-small : (kinds : List Kind) (kept : List (Option ℕ)) (rows : List (List ℤ))
@@ -74,11 +86,14 @@ firsts-small (kind ∷ kinds) [] rows count h sizes = absurd (omega (arith, coun
 firsts-small (kind ∷ kinds) (None ∷ kept) rows count h sizes =
     All-cons (λ x. All (IsAtMost (10 ^ 25)) x) (kind_start kind (pos 1)) (firsts_of kinds kept rows)
     (small-start kind (All-head (λ k. kind_size k ≤ℤ pos (10 ^ 18)) kind kinds sizes))
-    (firsts-small kinds kept rows (omega (arith, count)) (old-rest kind kinds None kept rows h) (All-tail (λ k. kind_size k ≤ℤ pos (10 ^ 18)) kind kinds sizes))
+    (firsts-small kinds kept rows (omega (arith, count)) (old-rest kind kinds None kept rows h)
+    (All-tail (λ k. kind_size k ≤ℤ pos (10 ^ 18)) kind kinds sizes))
 firsts-small (kind ∷ kinds) (Some i ∷ kept) rows count h sizes =
     let old = h 0 i kind refl refl in
-    All-cons (λ x. All (IsAtMost (10 ^ 25)) x) (base_at rows i) (firsts_of kinds kept rows) old.small
-    (firsts-small kinds kept rows (omega (arith, count)) (old-rest kind kinds (Some i) kept rows h) (All-tail (λ k. kind_size k ≤ℤ pos (10 ^ 18)) kind kinds sizes))
+    All-cons (λ x. All (IsAtMost (10 ^ 25)) x) (base_at rows i) (firsts_of kinds kept rows)
+    old.small
+    (firsts-small kinds kept rows (omega (arith, count)) (old-rest kind kinds (Some i) kept rows h)
+    (All-tail (λ k. kind_size k ≤ℤ pos (10 ^ 18)) kind kinds sizes))
 
 -- ---- the bases of the old instance
 
@@ -96,10 +111,17 @@ bases-of (k ∷ kinds) (x ∷ rows) zero kind h at small =
       small = All-head (λ x. All (IsAtMost (10 ^ 25)) x) x rows small;
     })
 bases-of (k ∷ kinds) (x ∷ rows) (suc i) kind h at small =
-    let rest = bases-of kinds rows i kind h.2 at (All-tail (λ x. All (IsAtMost (10 ^ 25)) x) x rows small) in
-    record { within = omega (arith, rest.within); entries = rest.entries; base = rest.base; small = rest.small }
+    let rest = bases-of kinds rows i kind h.2 at
+    (All-tail (λ x. All (IsAtMost (10 ^ 25)) x) x rows small) in
+    record {
+      within = omega (arith, rest.within);
+      entries = rest.entries;
+      base = rest.base;
+      small = rest.small;
+    }
 
--- bases of all old terms, with entries as `minimise` gives them at 0/1, are old bases of the kept ones
+-- bases of all old terms, with entries as `minimise` gives them at 0/1, are old bases of the kept
+-- ones
 pub old-bases : (old new : List Kind) (kept : List (Option ℕ)) (rows : List (List ℤ))
     → AreOrigins old new kept → AreBases (pos 1) (meanings kind_places kind_value old) rows
     → All (λ x. All (IsAtMost (10 ^ 25)) x) rows → AreOldBases new kept rows

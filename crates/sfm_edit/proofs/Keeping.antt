@@ -26,7 +26,8 @@ all-kept-at : (n j : ℕ) (origin : Option ℕ) → slice_get (all_kept n) j ≡
 all-kept-at n j origin at =
     let within : j < length (all_kept n) = slice_get_within (all_kept n) j origin at in
     let lt : j < n = omega (arith, within, length-map-range_with_len (λ i. Some i) 0 n) in
-    let here : get_or (all_kept n) j None ≡ origin = get_or_from_slice_get (all_kept n) j origin None at in
+    let here : get_or (all_kept n) j None ≡ origin = get_or_from_slice_get (all_kept n) j origin
+    None at in
     (lt, sym here ∙ get_or-map-range_with_len (λ i. Some i) 0 n j j None lt (omega arith))
 
 pub origins-first : (terms : List Kind) → AreOrigins terms terms (all_kept (length terms))
@@ -40,7 +41,8 @@ origins-first terms = record {
       let first : h ≡ j = same_Some h j (all-kept-at (length terms) j (Some h) at).1 in
       let second : i ≡ k = same_Some i k (all-kept-at (length terms) k (Some i) at').1 in
       omega (arith, lt, first, second);
-  behind = λ j k lt within at. let is : None ≡ Some j = (all-kept-at (length terms) j None at).1 in absurd (cc);
+  behind = λ j k lt within at. let is : None ≡ Some
+      j = (all-kept-at (length terms) j None at).1 in absurd (cc);
 }
 
 -- ---- one is taken out
@@ -70,13 +72,16 @@ get-past : {X : Type 0} (xs : List X) (i j k : ℕ) → i < length xs → IsPast
     → slice_get (remove xs i) j ≡ slice_get xs k
 get-past [] i j k within is = absurd (omega (arith, within))
 get-past (x ∷ xs) zero j k within (inl (lt, is)) = absurd (omega (arith, lt))
-get-past (x ∷ xs) zero j k within (inr (le, is)) = ap (slice_get (x ∷ xs)) (let e : suc j ≡ k = omega (arith, is) in e)
+get-past (x ∷ xs) zero j k within (inr (le, is)) =
+    ap (slice_get (x ∷ xs)) (let e : suc j ≡ k = omega (arith, is) in e)
 get-past (x ∷ xs) (suc i) zero k within (inl (lt, is)) = ap (slice_get (x ∷ xs)) (sym is)
 get-past (x ∷ xs) (suc i) zero k within (inr (le, is)) = absurd (omega (arith, le))
 get-past (x ∷ xs) (suc i) (suc j) zero within (inl (lt, is)) = absurd (omega (arith, is))
 get-past (x ∷ xs) (suc i) (suc j) zero within (inr (le, is)) = absurd (omega (arith, is))
-get-past (x ∷ xs) (suc i) (suc j) (suc k) within (inl (lt, is)) = get-past xs i j k (omega (arith, within)) (inl (omega (arith, lt), omega (arith, is)))
-get-past (x ∷ xs) (suc i) (suc j) (suc k) within (inr (le, is)) = get-past xs i j k (omega (arith, within)) (inr (omega (arith, le), omega (arith, is)))
+get-past (x ∷ xs) (suc i) (suc j) (suc k) within (inl (lt, is)) =
+    get-past xs i j k (omega (arith, within)) (inl (omega (arith, lt), omega (arith, is)))
+get-past (x ∷ xs) (suc i) (suc j) (suc k) within (inr (le, is)) =
+    get-past xs i j k (omega (arith, within)) (inr (omega (arith, le), omega (arith, is)))
 
 pub origins-removed : (old new : List Kind) (kept : List (Option ℕ)) (i : ℕ) → i < length new
     → AreOrigins old new kept → AreOrigins old (remove new i) (remove kept i)
@@ -89,11 +94,14 @@ origins-removed old new kept i within h = record {
   ascending = λ j k a b lt at at'.
       let (j', is) = past i j in
       let (k', is') = past i k in
-      h.ascending j' k' a b (past-order i j k j' k' lt is is') (sym (get-past kept i j j' inside is) ∙ at) (sym (get-past kept i k k' inside is') ∙ at');
+      h.ascending j' k' a b (past-order i j k j' k' lt is is')
+      (sym (get-past kept i j j' inside is) ∙ at) (sym (get-past kept i k k' inside is') ∙ at');
   behind = λ j k lt short at.
       let (j', is) = past i j in
       let (k', is') = past i k in
-      get-past kept i k k' inside is' ∙ h.behind j' k' (past-order i j k j' k' lt is is') (past-within i k k' (length kept) (length (remove kept i)) less short is') (sym (get-past kept i j j' inside is) ∙ at);
+      get-past kept i k k' inside is' ∙ h.behind j' k' (past-order i j k j' k' lt is is')
+      (past-within i k k' (length kept) (length (remove kept i)) less short is')
+      (sym (get-past kept i j j' inside is) ∙ at);
 }
   where
     inside : i < length kept
@@ -105,30 +113,43 @@ origins-removed old new kept i within h = record {
 -- ---- some in a row are taken out
 
 -- behind the last there is nothing to take out
-past-end : {X : Type 0} (xs : List X) (first count : ℕ) → length xs ≤ first + count → cut_out xs first (suc count) ≡ cut_out xs first count
+past-end : {X : Type 0} (xs : List X) (first count : ℕ) → length xs ≤ first + count
+    → cut_out xs first (suc count) ≡ cut_out xs first count
 past-end xs first count le =
     let more : drop (first + suc count) xs ≡ [] = drop_of_length-le xs (omega (arith, le)) in
     let here : drop (first + count) xs ≡ [] = drop_of_length-le xs le in
     ap (λ l. take first xs ++ l) (more ∙ sym here)
 
-origins-cut : (old new : List Kind) (kept : List (Option ℕ)) (first count : ℕ) → AreOrigins old new kept → AreOrigins old (cut_out new first count) (cut_out kept first count)
+origins-cut : (old new : List Kind) (kept : List (Option ℕ)) (first count : ℕ)
+    → AreOrigins old new kept → AreOrigins old (cut_out new first count) (cut_out kept first count)
 origins-cut old new kept first zero h = rw (cut_out-none new first, cut_out-none kept first) h
-origins-cut old new kept first (suc count) h = on (cases_lt (first + count) (length new)) (origins-cut old new kept first count h)
+origins-cut old new kept first (suc count) h =
+    on (cases_lt (first + count) (length new)) (origins-cut old new kept first count h)
   where
-    on : (first + count < length new) ⊎ (length new ≤ first + count) → AreOrigins old (cut_out new first count) (cut_out kept first count) → AreOrigins old (cut_out new first (suc count)) (cut_out kept first (suc count))
-    on (inr le) before = rw (past-end new first count le, past-end kept first count (omega (arith, le, h.count))) before
+    on : (first + count < length new) ⊎ (length new ≤ first + count)
+        → AreOrigins old (cut_out new first count) (cut_out kept first count)
+        → AreOrigins old (cut_out new first (suc count)) (cut_out kept first (suc count))
+    on (inr le) before = rw (
+      past-end new first count le,
+      past-end kept first count (omega (arith, le, h.count)),
+    ) before
     on (inl lt) before =
         let len = length-append (take first new) (drop (first + count) new) in
         let front = length-take-le first new (omega (arith, lt)) in
         let back = length-drop (first + count) new in
-        let less = origins-removed old (cut_out new first count) (cut_out kept first count) first (omega (arith, lt, len, front, back)) before in
+        let less = origins-removed old (cut_out new first count) (cut_out kept first count) first
+        (omega (arith, lt, len, front, back)) before in
         let next : count + 1 ≡ suc count = omega arith in
-        let terms : remove (cut_out new first count) first ≡ cut_out new first (suc count) = cut_out-more new first count lt ∙ ap (λ c. cut_out new first c) next in
-        let origins : remove (cut_out kept first count) first ≡ cut_out kept first (suc count) = cut_out-more kept first count (omega (arith, lt, h.count)) ∙ ap (λ c. cut_out kept first c) next in
+        let terms : remove (cut_out new first count) first ≡ cut_out new first
+        (suc count) = cut_out-more new first count lt ∙ ap (λ c. cut_out new first c) next in
+        let origins : remove (cut_out kept first count) first ≡ cut_out kept first
+        (suc count) = cut_out-more kept first count (omega (arith, lt, h.count))
+        ∙ ap (λ c. cut_out kept first c) next in
         rw (← terms, ← origins) less
 
 -- those of a line
-origins-without : (old new : List Kind) (kept : List (Option ℕ)) (lines : List ℕ) (i : ℕ) → i < length lines → AreOrigins old new kept
+origins-without : (old new : List Kind) (kept : List (Option ℕ)) (lines : List ℕ) (i : ℕ)
+    → i < length lines → AreOrigins old new kept
     → AreOrigins old (without_terms lines i new) (without_terms lines i kept)
 origins-without old new kept lines i lt h =
     let is = next-line lines i lt in
@@ -155,7 +176,9 @@ origins-added old new kept term h = record {
       let (within, same) = h.same j i before in
       (within, get-old new term j (omega (arith, lt, h.count)) ∙ same);
   ascending = λ j k a b lt at at'. h.ascending j k a b lt (old-at j a at).1 (old-at k b at').1;
-  behind = λ j k lt short at. at-end k (omega (arith, short, length_push kept None)) (λ within. h.behind j k lt within (sym (get-old kept None j (omega (arith, lt, within))) ∙ at));
+  behind = λ j k lt short at. at-end k (omega (arith, short, length_push kept None))
+      (λ within. h.behind j k lt within
+      (sym (get-old kept None j (omega (arith, lt, within))) ∙ at));
 }
   where
     -- an old place is that of an old term
@@ -167,9 +190,11 @@ origins-added old new kept term h = record {
             → (j < length kept) × (slice_get kept j ≡ Some (Some i))
         on (inl lt) = (lt, sym (get-old kept None j lt) ∙ at)
         on (inr le) =
-            let short : j < length (kept ++ None ∷ []) = slice_get_within (kept ++ None ∷ []) j (Some i) at in
+            let short : j < length (kept ++ None ∷ []) = slice_get_within (kept ++ None ∷ []) j
+            (Some i) at in
             let last : j ≡ length kept = omega (arith, short, le, length_push kept None) in
-            let same : Some None ≡ Some (Some i) = sym (get-new kept None) ∙ (ap (slice_get (kept ++ None ∷ [])) (sym last) ∙ at) in
+            let same : Some None ≡ Some (Some i) = sym (get-new kept None)
+            ∙ (ap (slice_get (kept ++ None ∷ [])) (sym last) ∙ at) in
             let none : None ≡ Some i = same_Some None (Some i) same in
             absurd (cc)
 
@@ -186,21 +211,26 @@ origins-added old new kept term h = record {
 
 -- ---- some are added
 
-pub origins-grown : (old new : List Kind) (kept : List (Option ℕ)) (more : List Kind) → AreOrigins old new kept
+pub origins-grown : (old new : List Kind) (kept : List (Option ℕ)) (more : List Kind)
+    → AreOrigins old new kept
     → AreOrigins old (new ++ more) (kept ++ replicate (length more) None)
 origins-grown old new kept [] h = rw (append-nil new, append-nil kept) h
 origins-grown old new kept (term ∷ more) h =
     let terms : (new ++ term ∷ []) ++ more ≡ new ++ term ∷ more = append_snoc new term more in
     let all = replicate (length more) None in
     let origins : (kept ++ None ∷ []) ++ all ≡ kept ++ None ∷ all = append_snoc kept None all in
-    rw (← terms, ← origins) (origins-grown old (new ++ term ∷ []) (kept ++ None ∷ []) more (origins-added old new kept term h))
+    rw (← terms, ← origins) (origins-grown old (new ++ term ∷ []) (kept ++ None ∷ []) more
+    (origins-added old new kept term h))
 
 -- how many more they are
-pub grown-by : (old more new : List Kind) → new ≡ old ++ more → length new - length old ≡ length more
+pub grown-by : (old more new : List Kind) → new ≡ old ++ more
+    → length new - length old ≡ length more
 grown-by old more new is = omega (arith, ap length is, length-append old more)
 
 -- a term line leaves the others where they are
-pub added-longer : (old new : InstanceData) (tokens : List (List ℕ)) → AddsTerm (state_at Terms old) tokens (state_at Terms new) → length old.terms ≤ length new.terms
+pub added-longer : (old new : InstanceData) (tokens : List (List ℕ))
+    → AddsTerm (state_at Terms old) tokens (state_at Terms new)
+    → length old.terms ≤ length new.terms
 added-longer old new tokens (term, weights, says, more, are, same) =
     let terms : new.terms ≡ old.terms ++ more = ap (λ (s : State). s.terms) same in
     omega (arith, ap length terms, length-append old.terms more)
@@ -211,15 +241,19 @@ added-longer old new tokens (term, weights, says, more, are, same) =
 pub origins-edited : (old : List Kind) (e f : Editing) (tokens : List (List ℕ)) → Edits e tokens f
     → AreOrigins old e.instance.terms e.kept → AreOrigins old f.instance.terms f.kept
 origins-edited old e f tokens (inl (text, i, is, number, same)) h =
-    subst (λ (g : Editing). AreOrigins old g.instance.terms g.kept) (sym same) (origins-without old e.instance.terms e.kept e.instance.lines i number.0 h)
+    subst (λ (g : Editing). AreOrigins old g.instance.terms g.kept) (sym same)
+    (origins-without old e.instance.terms e.kept e.instance.lines i number.0 h)
 origins-edited old e f tokens (inr (rest, is, (term, weights, says, more, are, same), kept)) h =
     let terms : f.instance.terms ≡ e.instance.terms ++ more = ap (λ (s : State). s.terms) same in
     let count = grown-by e.instance.terms more f.instance.terms terms in
-    let origins : f.kept ≡ e.kept ++ replicate (length more) None = kept ∙ ap (λ n. e.kept ++ replicate n None) count in
+    let origins : f.kept ≡ e.kept ++ replicate (length more) None = kept
+    ∙ ap (λ n. e.kept ++ replicate n None) count in
     rw (terms, origins) (origins-grown old e.instance.terms e.kept more h)
 
 -- and the names
 pub names-edited : (e f : Editing) (tokens : List (List ℕ)) → Edits e tokens f
     → f.instance.names ≡ e.instance.names
-names-edited e f tokens (inl (text, i, is, number, same)) = ap (λ (g : Editing). g.instance.names) same
-names-edited e f tokens (inr (rest, is, (term, weights, says, more, are, same), kept)) = ap (λ (s : State). s.names) same
+names-edited e f tokens (inl (text, i, is, number, same)) =
+    ap (λ (g : Editing). g.instance.names) same
+names-edited e f tokens (inr (rest, is, (term, weights, says, more, are, same), kept)) =
+    ap (λ (s : State). s.names) same

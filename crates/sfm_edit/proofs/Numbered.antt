@@ -18,10 +18,12 @@ abs-is : (a : ℤ) → pos 0 ≤ℤ a → pos (nat_abs a) ≡ a
 abs-is (pos k) low = refl
 abs-is (negsuc k) low = absurd (omega (arith, ints, low))
 
-module _ (text : List ℕ) (told : Option ℤ) (tells : TellsNumber text told) (count : ℕ) (few : count < 2 ^ 64) where
+module _ (text : List ℕ) (told : Option ℤ) (tells : TellsNumber text told) (count : ℕ)
+    (few : count < 2 ^ 64) where
   -- the number of a line is told
   told-line : (i : ℕ) → IsLineNumber count text i → told ≡ Some (pos (i + 1))
-  told-line i (lt, number) = (tells (pos (i + 1))).1 (number, record { low = omega (arith, ints); high = omega (arith, ints, lt, few) })
+  told-line i (lt, number) = (tells (pos (i + 1))).1
+      (number, record { low = omega (arith, ints); high = omega (arith, ints, lt, few) })
 
   -- where nothing is told, it is the number of no line
   pub untold : told ≡ None → (i : ℕ) → IsLineNumber count text i → ⊥
@@ -43,7 +45,8 @@ module _ (text : List ℕ) (told : Option ℤ) (tells : TellsNumber text told) (
     -- a number below 1 or above the count is that of no line
     pub too-low : lt_z (to_z w128 (of_z w128 number)) (pos 1) ≡ true → (i : ℕ)
         → IsLineNumber count text i → ⊥
-    too-low low i h = let less : lt_z number (pos 1) ≡ true = rw kept-number at low in omega (arith, ints, less, line-is i h)
+    too-low low i h = let less : lt_z number (pos 1) ≡ true = rw kept-number at
+        low in omega (arith, ints, less, line-is i h)
 
     pub too-high : lt_z (to_z w128 count) (to_z w128 (of_z w128 number)) ≡ true → (i : ℕ)
         → IsLineNumber count text i → ⊥
@@ -54,11 +57,17 @@ module _ (text : List ℕ) (told : Option ℤ) (tells : TellsNumber text told) (
     -- any other is that of a line
     pub in-range : lt_z (to_z w128 (of_z w128 number)) (pos 1) ≡ false
         → lt_z (to_z w128 count) (to_z w128 (of_z w128 number)) ≡ false
-        → IsLineNumber count text (nat_abs (to_z w128 (of_z w128 (to_z w128 (of_z w128 number) -ℤ pos 1))))
+        → IsLineNumber count text (nat_abs
+        (to_z w128 (of_z w128 (to_z w128 (of_z w128 number) -ℤ pos 1))))
     in-range low high =
         let least : lt_z number (pos 1) ≡ false = rw kept-number at low in
         let most : lt_z (pos count) number ≡ false = rw (kept-number, kept-count) at high in
-        let less : to_z w128 (of_z w128 (number -ℤ pos 1)) ≡ (number -ℤ pos 1) = to_z-of_z w128 (number -ℤ pos 1) (omega (arith, ints, entry.low, entry.high)) in
-        let place : pos (nat_abs (number -ℤ pos 1)) ≡ (number -ℤ pos 1) = abs-is (number -ℤ pos 1) (omega (arith, ints, least)) in
+        let less : to_z w128 (of_z w128 (number -ℤ pos 1)) ≡ (number -ℤ pos 1) = to_z-of_z w128
+        (number -ℤ pos 1) (omega (arith, ints, entry.low, entry.high)) in
+        let place : pos (nat_abs (number -ℤ pos 1)) ≡ (number -ℤ pos 1) = abs-is (number -ℤ pos 1)
+        (omega (arith, ints, least)) in
         let next : pos (nat_abs (number -ℤ pos 1) + 1) ≡ number = omega (arith, ints, place) in
-        rw (kept-number, less) (omega (arith, ints, place, most), subst (IsNumber text) (sym next) ((tells number).0 is).0)
+        rw (kept-number, less) (
+          omega (arith, ints, place, most),
+          subst (IsNumber text) (sym next) ((tells number).0 is).0,
+        )

@@ -1,5 +1,5 @@
--- The reasons of a line of edits: which is the first where it is not taken, and that it has none where it is. Those of what
--- stands behind `add` are those that it has as a term line.
+-- The reasons of a line of edits: which is the first where it is not taken, and that it has none
+-- where it is. Those of what stands behind `add` are those that it has as a term line.
 use Rattle.std.proofs.Common.{◌≡◌, ◌≢◌, inl, inr, ℕ, ◌<◌, ◌≤◌, List, [], ◌∷◌, ◌++◌, ◌-◌, length, get_or, codes, replicate, Option, None, refl, sym, ap, subst, ◌∙◌, arith}
 use Rattle.std.specs.Prelude.{Result, Ok, Err, MatchResult}
 use Rattle.std.specs.List.{Any, remove}
@@ -49,19 +49,27 @@ on-refusal Q P (Err e) end is p = subst P (sym is) p
 
 -- an instance under edits, part by part
 abbrev editing : Version → List (List ℕ) → List Kind → List ℕ → List (Option ℕ) → Editing
-editing version names terms lines kept = record { instance = record { version = version; names = names; terms = terms; lines = lines }; kept = kept }
+editing version names terms lines kept =
+    record {
+      instance = record { version = version; names = names; terms = terms; lines = lines };
+      kept = kept;
+    }
 
-same-editing : (a b : Editing) → a.instance.version ≡ b.instance.version → a.instance.names ≡ b.instance.names
-    → a.instance.terms ≡ b.instance.terms → a.instance.lines ≡ b.instance.lines → a.kept ≡ b.kept → a ≡ b
+same-editing : (a b : Editing) → a.instance.version ≡ b.instance.version
+    → a.instance.names ≡ b.instance.names
+    → a.instance.terms ≡ b.instance.terms → a.instance.lines ≡ b.instance.lines → a.kept ≡ b.kept
+    → a ≡ b
 same-editing a b version names terms lines kept =
     ap (λ v. editing v a.instance.names a.instance.terms a.instance.lines a.kept) version
     ∙ (ap (λ n. editing b.instance.version n a.instance.terms a.instance.lines a.kept) names
     ∙ (ap (λ t. editing b.instance.version b.instance.names t a.instance.lines a.kept) terms
     ∙ (ap (λ l. editing b.instance.version b.instance.names b.instance.terms l a.kept) lines
-    ∙ ap (λ k. editing b.instance.version b.instance.names b.instance.terms b.instance.lines k) kept)))
+    ∙ ap (λ k. editing b.instance.version b.instance.names b.instance.terms b.instance.lines k)
+    kept)))
 
 -- no term line has a reason that is said of no tokens
-no-other : (instance : InstanceData) (tokens : List (List ℕ)) → (HasAdded instance tokens Long → ⊥) × (HasAdded instance tokens Bytes → ⊥) × (HasAdded instance tokens Short → ⊥)
+no-other : (instance : InstanceData) (tokens : List (List ℕ)) → (HasAdded instance tokens Long → ⊥)
+    × (HasAdded instance tokens Bytes → ⊥) × (HasAdded instance tokens Short → ⊥)
 no-other instance tokens = (long, bytes, short) where
   long : HasAdded instance tokens Long → ⊥
   long (rest, is, (plain, entries, line, inl h)) = h
@@ -75,7 +83,8 @@ no-other instance tokens = (long, bytes, short) where
   short (rest, is, (plain, entries, line, inl h)) = h
   short (rest, is, (plain, entries, line, inr (number, h))) = absurd (cc)
 
--- the reasons of the form are none that the frame tells, and of the end no more than that it is no edit
+-- the reasons of the form are none that the frame tells, and of the end no more than that it is no
+-- edit
 pub edits-framed : (instance : InstanceData) → IsFramed (edits_form instance)
 edits-framed instance = record { plain = plain; ends = ends } where
   plain : (e : Editing) (tokens : List (List ℕ)) (reason : Reason) → HasEdit e tokens reason
@@ -97,7 +106,8 @@ edits-framed instance = record { plain = plain; ends = ends } where
 pub edit-other : (e : Editing) (tokens : List (List ℕ))
     → ((rest : List (List ℕ)) → tokens ≢ codes "drop" ∷ rest)
     → ((rest : List (List ℕ)) → tokens ≢ codes "add" ∷ rest) → IsFirstOf (HasEdit e tokens) Word
-edit-other e tokens no_drop no_add = first_listed (HasEdit e tokens) Word (no_drop, λ word rest. no_add (word_text word ∷ rest)) none
+edit-other e tokens no_drop no_add =
+    first_listed (HasEdit e tokens) Word (no_drop, λ word rest. no_add (word_text word ∷ rest)) none
   where
     none : (reason : Reason) → reason_order reason < 2 → HasEdit e tokens reason → ⊥
     none Long lt h = (no-other e.instance tokens).0 h
@@ -127,21 +137,26 @@ drop-empty tokens none text (is, other) = omega (arith, ap length is, ap length 
 -- more than one token
 pub drop-more : (tokens more : List (List ℕ)) (first : List ℕ) → tokens ≡ first ∷ more
     → 0 < length more → (text : List ℕ) → IsDrop (codes "drop" ∷ tokens) text → ⊥
-drop-more tokens more first cut some text (is, other) = omega (arith, ap length is, ap length cut, some)
+drop-more tokens more first cut some text (is, other) =
+    omega (arith, ap length is, ap length cut, some)
 
 -- a mark
 pub drop-mark : (tokens more : List (List ℕ)) (first : List ℕ) → tokens ≡ first ∷ more
     → IsSeparator first → (text : List ℕ) → IsDrop (codes "drop" ∷ tokens) text → ⊥
 drop-mark tokens more first cut mark text (is, other) =
-    let both : first ∷ more ≡ text ∷ [] = sym cut ∙ same-rest (codes "drop") tokens (text ∷ []) is in
+    let both : first ∷ more ≡ text ∷ [] = sym cut ∙ same-rest (codes "drop") tokens (text ∷ [])
+    is in
     let same : first ≡ text = cc in
     other (subst IsSeparator same mark)
 
 -- one token, which is no mark
 pub drop-one : (tokens more : List (List ℕ)) (first : List ℕ) → tokens ≡ first ∷ more → more ≡ []
     → (IsSeparator first → ⊥) → IsDrop (codes "drop" ∷ tokens) first
-drop-one tokens more first cut none other =
-    (ap (λ (l : List (List ℕ)). codes "drop" ∷ l) (cut ∙ ap (λ (l : List (List ℕ)). first ∷ l) none), other)
+drop-one tokens more first cut none other = (
+  ap (λ (l : List (List ℕ)). codes "drop" ∷ l)
+      (cut ∙ ap (λ (l : List (List ℕ)). first ∷ l) none),
+  other,
+)
 
 -- ---- a line that begins with `drop`
 
@@ -187,17 +202,21 @@ module _ (e : Editing) (rest : List (List ℕ)) where
 
         no-number : HasEdit e (codes "drop" ∷ rest) Number → ⊥
         no-number (inl (other, at, none)) =
-            let both : other ∷ [] ≡ text ∷ [] = same-rest (codes "drop") (other ∷ []) (text ∷ []) (sym at.0 ∙ is.0) in
+            let both : other ∷ [] ≡ text ∷ [] = same-rest (codes "drop") (other ∷ []) (text ∷ [])
+            (sym at.0 ∙ is.0) in
             let same : other ≡ text = cc in
             (rw same at none) i number
         no-number (inr (other, at, h)) = drop-no-add rest other at
 
     pub drop-taken : (i : ℕ) (f : Editing) → IsLineNumber (length e.instance.lines) text i
         → f.instance.version ≡ e.instance.version → f.instance.names ≡ e.instance.names
-        → f.instance.terms ≡ without_terms e.instance.lines i e.instance.terms → f.instance.lines ≡ remove e.instance.lines i
+        → f.instance.terms ≡ without_terms e.instance.lines i e.instance.terms
+        → f.instance.lines ≡ remove e.instance.lines i
         → f.kept ≡ without_terms e.instance.lines i e.kept → IsEdited e (codes "drop" ∷ rest) f
     drop-taken i f number version names terms lines kept =
-        subst (IsEdited e (codes "drop" ∷ rest)) (sym (same-editing f (without_line e i) version names terms lines kept)) (taken i number)
+        subst (IsEdited e (codes "drop" ∷ rest))
+        (sym (same-editing f (without_line e i) version names terms lines kept))
+        (taken i number)
 
 -- ---- a line that begins with `add`, with a line of these bytes behind it
 
@@ -210,7 +229,8 @@ module _ (e : Editing) (line : List ℕ) (good : Any IsBadByte line → ⊥) whe
   as-edit Bytes h = absurd (good h)
   as-edit Word h = (
     λ rest is. drop-no-add rest (tokens_of line) (sym is),
-    λ word rest is. h word rest (same-rest (codes "add") (tokens_of line) (word_text word ∷ rest) is),
+    λ word rest is. h word rest (same-rest (codes "add") (tokens_of line) (word_text word ∷ rest)
+        is),
   )
   as-edit Shape h = inr (tokens_of line, refl, h)
   as-edit Number h = inr (tokens_of line, refl, h)
@@ -220,7 +240,8 @@ module _ (e : Editing) (line : List ℕ) (good : Any IsBadByte line → ⊥) whe
   behind-add : (reason : Reason) → HasAdded e.instance (codes "add" ∷ tokens_of line) reason
       → HasTermReason (state_at Terms e.instance) (tokens_of line) reason
   behind-add reason (rest, is, h) =
-      subst (λ (tokens : List (List ℕ)). HasTermReason (state_at Terms e.instance) tokens reason) (sym (same-rest (codes "add") (tokens_of line) rest is)) h
+      subst (λ (tokens : List (List ℕ)). HasTermReason (state_at Terms e.instance) tokens reason)
+      (sym (same-rest (codes "add") (tokens_of line) rest is)) h
 
   as-term : (reason : Reason) → HasEdit e (codes "add" ∷ tokens_of line) reason
       → HasAsTerm e.instance line reason
@@ -230,7 +251,8 @@ module _ (e : Editing) (line : List ℕ) (good : Any IsBadByte line → ⊥) whe
   as-term Word h = λ word rest is. h.1 word rest (ap (λ (l : List (List ℕ)). codes "add" ∷ l) is)
   as-term Shape (inl (rest, is, none)) = absurd (drop-no-add rest (tokens_of line) (sym is))
   as-term Shape (inr h) = behind-add Shape h
-  as-term Number (inl (text, is, none)) = absurd (drop-no-add (text ∷ []) (tokens_of line) (sym is.0))
+  as-term Number (inl (text, is, none)) =
+      absurd (drop-no-add (text ∷ []) (tokens_of line) (sym is.0))
   as-term Number (inr h) = behind-add Number h
   as-term Name h = behind-add Name h
   as-term Twice h = behind-add Twice h
@@ -240,13 +262,19 @@ module _ (e : Editing) (line : List ℕ) (good : Any IsBadByte line → ⊥) whe
   -- so its first reason is the first
   pub add-refused : (end : LineEnd) → IsTermRefusal e.instance line end
       → IsEditRefusal e (codes "add" ∷ tokens_of line) end
-  add-refused (Fault reason) h = first_listed (HasEdit e (codes "add" ∷ tokens_of line)) reason (as-edit reason h.holds)
+  add-refused (Fault reason) h = first_listed (HasEdit e (codes "add" ∷ tokens_of line)) reason
+      (as-edit reason h.holds)
       (λ earlier lt has. h.first earlier lt (as-term earlier has))
   add-refused Memory h = tt
 
   -- and its terms are added
   pub add-taken : (new : InstanceData) → IsTermAdded e.instance line new
-      → IsEdited e (codes "add" ∷ tokens_of line) (record { instance = new; kept = e.kept ++ replicate (length new.terms - length e.instance.terms) None })
+      → IsEdited e (codes "add" ∷ tokens_of line)
+      (record {
+        instance = new;
+        kept = e.kept ++ replicate
+            (length new.terms - length e.instance.terms) None;
+      })
   add-taken new h = record {
     good = λ reason has. h.good reason (as-term reason has);
     says = inr (tokens_of line, refl, h.adds, refl);

@@ -9,7 +9,8 @@ use Rattle.sfm_reach.specs.Unions.{HaveRows}
 use Rattle.sfm_exchange.proofs.ClaimedGraphs.{whole_claimed}
 use Rattle.sfm_exchange.proofs.ClaimedGraphs as claimed
 
-module _ {X N : Type 0} {T : Ghosts X N} {terms : List X} {n : ℕ} {q : ℤ} {graph : Graph N} (h : IsWhole T terms n q graph) where
+module _ {X N : Type 0} {T : Ghosts X N} {terms : List X} {n : ℕ} {q : ℤ} {graph : Graph N}
+    (h : IsWhole T terms n q graph) where
   -- at a factor that is not negative
   pub low : pos 0 ≤ℤ q
   low = claimed.low (whole_claimed h)
@@ -31,5 +32,7 @@ module _ {X N : Type 0} {T : Ghosts X N} {terms : List X} {n : ℕ} {q : ℤ} {g
   spot_rows = claimed.spot_rows (whole_claimed h)
 
   -- the terms are what the laws ask of terms
-  pub are_terms : ((x : X) → IsFamily (length (T.places x)) (T.value_of x)) → ((x : X) → IsSubmodular (length (T.places x)) (T.value_of x)) → AreTerms n (meanings T.places T.value_of terms)
+  pub are_terms : ((x : X) → IsFamily (length (T.places x)) (T.value_of x))
+      → ((x : X) → IsSubmodular (length (T.places x)) (T.value_of x))
+      → AreTerms n (meanings T.places T.value_of terms)
   are_terms family law = claimed.are_terms (whole_claimed h) family law

@@ -35,24 +35,31 @@ pub record IsHop (terms : List Meaning) (from : ℕ) (hop : Hop) : Type 0 where
 -- each begins where the one before ends, and the row of its beginning has its end
 abbrev pub AreHops : List Meaning → List (List Bits) → ℕ → List Hop → Type 0
 AreHops terms tables from [] = Unit {0}
-AreHops terms tables from (hop ∷ hops) = IsHop terms from hop × (bit_in (set_at (table_at tables hop.term) hop.u) hop.to ≡ 1) × AreHops terms tables hop.to hops
+AreHops terms tables from (hop ∷ hops) = IsHop terms from hop
+    × (bit_in (set_at (table_at tables hop.term) hop.u) hop.to ≡ 1)
+    × AreHops terms tables hop.to hops
 
 -- a step that the rows tell: the term has its beginning, whose row has its end
-pub record IsTold (terms : List Meaning) (tables : List (List Bits)) (from : ℕ) (step : Step) : Type 0 where
+pub record IsTold (terms : List Meaning) (tables : List (List Bits)) (from : ℕ) (step : Step) : Type
+    0 where
   pub term_in : step.term < length terms
   pub u : ℕ
   pub u_in : u < length (term_at terms step.term).places
   pub begins : slice_index_or (term_at terms step.term).places u 0 ≡ from
   pub has_end : bit_in (set_at (table_at tables step.term) u) step.to ≡ 1
 
--- no step that the rows tell from each place, and that lowers d, has a lesser code than the one that is taken
+-- no step that the rows tell from each place, and that lowers d, has a lesser code than the one
+-- that is taken
 abbrev pub AreLeast : List Meaning → List (List Bits) → (ℕ → ℕ) → ℕ → List Hop → Type 0
 AreLeast terms tables d from [] = Unit {0}
 AreLeast terms tables d from (hop ∷ hops) =
-    ((other : Step) → IsTold terms tables from other → d from ≡ d other.to + 1 → step_code terms (step_of hop) ≤ step_code terms other) × AreLeast terms tables d hop.to hops
+    ((other : Step) → IsTold terms tables from other → d from ≡ d other.to + 1
+    → step_code terms (step_of hop) ≤ step_code terms other)
+    × AreLeast terms tables d hop.to hops
 
 -- the step can move something between its places
-pub record IsMovable (terms : List Meaning) (q : ℤ) (rows : List (List ℤ)) (hop : Hop) : Type 0 where
+pub record IsMovable (terms : List Meaning) (q : ℤ) (rows : List (List ℤ)) (hop : Hop) : Type
+    0 where
   pub term_in : hop.term < length terms
   pub u_in : hop.u < length (term_at terms hop.term).places
   pub v_in : hop.v < length (term_at terms hop.term).places
@@ -61,11 +68,13 @@ pub record IsMovable (terms : List Meaning) (q : ℤ) (rows : List (List ℤ)) (
 
 -- the step can move a
 abbrev pub Moves : List Meaning → ℤ → List (List ℤ) → Hop → ℤ → Type 0
-Moves terms q rows hop a = IsBase (times q (term_at terms hop.term).value) (exchanged (base_at rows hop.term) hop.u hop.v a)
+Moves terms q rows hop a = IsBase (times q (term_at terms hop.term).value)
+    (exchanged (base_at rows hop.term) hop.u hop.v a)
 
 -- each step can still move a once those behind it have moved
 abbrev pub AreInOrder : List Meaning → ℤ → List (List ℤ) → ℕ → List Step → ℤ → Type 0
-AreInOrder terms q rows first steps a = (front back : List Step) (step : Step) (mid : List (List ℤ)) → steps ≡ front ++ step ∷ back
+AreInOrder terms q rows first steps a = (front back : List Step) (step : Step) (mid : List (List ℤ))
+    → steps ≡ front ++ step ∷ back
     → IsWalkMove terms rows step.to back a mid → CanMove terms q mid (last_of first front) step a
 
 -- each step leads between the places of its term that it names
@@ -73,8 +82,10 @@ abbrev pub AreNamed : List Meaning → ℕ → List Hop → Type 0
 AreNamed terms from [] = Unit {0}
 AreNamed terms from (hop ∷ hops) = IsHop terms from hop × AreNamed terms hop.to hops
 
--- the exchange of the step can be made, and the entries of the row are within the bounds before it and after it
-pub record CanExchange (terms : List Meaning) (q : ℤ) (rows : List (List ℤ)) (hop : Hop) (a : ℤ) : Type 0 where
+-- the exchange of the step can be made, and the entries of the row are within the bounds before it
+-- and after it
+pub record CanExchange (terms : List Meaning) (q : ℤ) (rows : List (List ℤ)) (hop : Hop)
+    (a : ℤ) : Type 0 where
   pub term_in : hop.term < length terms
   pub small : All IsEntry (base_at rows hop.term)
   pub after : All IsEntry (exchanged (base_at rows hop.term) hop.u hop.v a)

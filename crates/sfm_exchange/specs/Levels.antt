@@ -16,7 +16,8 @@ depth_of (level ∷ levels) e = if nat_eq (bit_in level e) 1 then 0 else suc (de
 -- levels of n places, of which no two have a place in common
 pub record AreParted (n : ℕ) (levels : List Bits) : Type 0 where
   pub below : (k e : ℕ) → k < length levels → bit_in (set_at levels k) e ≡ 1 → e < n
-  pub apart : (j k e : ℕ) → j < length levels → k < length levels → bit_in (set_at levels j) e ≡ 1 → bit_in (set_at levels k) e ≡ 1 → j ≡ k
+  pub apart : (j k e : ℕ) → j < length levels → k < length levels → bit_in (set_at levels j) e ≡ 1
+      → bit_in (set_at levels k) e ≡ 1 → j ≡ k
 
 -- the last level has the place
 pub record IsAtLast (levels : List Bits) (e : ℕ) : Type 0 where
@@ -30,25 +31,34 @@ pub record IsStuck (unions levels : List Bits) (stuck : Stuck) : Type 0 where
   pub has : bit_in (set_at levels stuck.level) stuck.place ≡ 1
   pub none : (j : ℕ) → j + 1 ≡ stuck.level → LeadsInto unions stuck.place (set_at levels j) → ⊥
 
--- levels of n places: the first has those with z > 0, no two have a place in common, each place of a further level leads into
--- the one before, and all that lead into a level but the last are in levels up to the next; only the last may have z < 0
+-- levels of n places: the first has those with z > 0, no two have a place in common, each place of
+-- a further level leads into the one before, and all that lead into a level but the last are in
+-- levels up to the next; only the last may have z < 0
 pub record AreLevels (n : ℕ) (unions : List Bits) (z : List ℤ) (levels : List Bits) : Type 0 where
   pub some : 0 < length levels
-  pub over : (e : ℕ) → (bit_in (set_at levels 0) e ≡ 1) ↔ ((e < n) × (pos 0 <ℤ slice_index_or z e (pos 0)))
+  pub over : (e : ℕ) → (bit_in (set_at levels 0) e ≡ 1)
+      ↔ ((e < n) × (pos 0 <ℤ slice_index_or z e (pos 0)))
   pub below : (k e : ℕ) → k < length levels → bit_in (set_at levels k) e ≡ 1 → e < n
-  pub apart : (j k e : ℕ) → j < length levels → k < length levels → bit_in (set_at levels j) e ≡ 1 → bit_in (set_at levels k) e ≡ 1 → j ≡ k
-  pub leads : (k e : ℕ) → k + 1 < length levels → bit_in (set_at levels (k + 1)) e ≡ 1 → LeadsInto unions e (set_at levels k)
-  pub closed : (k e : ℕ) → k + 1 < length levels → e < n → LeadsInto unions e (set_at levels k) → (j : ℕ) × (j ≤ k + 1) × (bit_in (set_at levels j) e ≡ 1)
-  pub above : (k e : ℕ) → k + 1 < length levels → bit_in (set_at levels k) e ≡ 1 → slice_index_or z e (pos 0) <ℤ pos 0 → ⊥
+  pub apart : (j k e : ℕ) → j < length levels → k < length levels → bit_in (set_at levels j) e ≡ 1
+      → bit_in (set_at levels k) e ≡ 1 → j ≡ k
+  pub leads : (k e : ℕ) → k + 1 < length levels → bit_in (set_at levels (k + 1)) e ≡ 1
+      → LeadsInto unions e (set_at levels k)
+  pub closed : (k e : ℕ) → k + 1 < length levels → e < n → LeadsInto unions e (set_at levels k)
+      → (j : ℕ) × (j ≤ k + 1) × (bit_in (set_at levels j) e ≡ 1)
+  pub above : (k e : ℕ) → k + 1 < length levels → bit_in (set_at levels k) e ≡ 1
+      → slice_index_or z e (pos 0) <ℤ pos 0 → ⊥
 
 -- all places that lead into a level are in one, and none has z < 0
 pub record AreClosed (n : ℕ) (unions : List Bits) (z : List ℤ) (levels : List Bits) : Type 0 where
   pub levelled : AreLevels n unions z levels
-  pub closed : (k e : ℕ) → k < length levels → e < n → LeadsInto unions e (set_at levels k) → (j : ℕ) × (j < length levels) × (bit_in (set_at levels j) e ≡ 1)
-  pub above : (k e : ℕ) → k < length levels → bit_in (set_at levels k) e ≡ 1 → slice_index_or z e (pos 0) <ℤ pos 0 → ⊥
+  pub closed : (k e : ℕ) → k < length levels → e < n → LeadsInto unions e (set_at levels k)
+      → (j : ℕ) × (j < length levels) × (bit_in (set_at levels j) e ≡ 1)
+  pub above : (k e : ℕ) → k < length levels → bit_in (set_at levels k) e ≡ 1
+      → slice_index_or z e (pos 0) <ℤ pos 0 → ⊥
 
 -- the first place of a walk: the last level has it, and z < 0 there
-pub record IsFirst (n : ℕ) (unions : List Bits) (z : List ℤ) (levels : List Bits) (first : ℕ) : Type 0 where
+pub record IsFirst (n : ℕ) (unions : List Bits) (z : List ℤ) (levels : List Bits) (first : ℕ) : Type
+    0 where
   pub levelled : AreLevels n unions z levels
   pub further : 1 < length levels
   pub last : (k : ℕ) → k + 1 ≡ length levels → bit_in (set_at levels k) first ≡ 1

@@ -1,4 +1,5 @@
--- Which places come along with which, as the rows of a table, and the blocks that are read off from it.
+-- Which places come along with which, as the rows of a table, and the blocks that are read off from
+-- it.
 use Rattle.std.specs.Prelude.{◌≡◌, ◌≢◌, ◌↔◌, ◌⊎◌, ℕ, zero, suc, ◌<◌, Bool, false, not, ◌&&◌, List, [], ◌∷◌, ◌++◌, length, slice_index, slice_index_or, nat_eq, if◌then◌else◌}
 use Rattle.sfm_spec.specs.Sets.{Has, size}
 use Rattle.sfm_spec.specs.Blocks.{Block, block_at}
@@ -24,7 +25,8 @@ abbrev pub row_of : List (List Bool) → ℕ → List Bool
 row_of rows e = slice_index_or rows e []
 
 -- the row of each place
-pub record ArePullRows (unions : List Bits) (outside : Bits) (rows : List (List Bool)) : Type 0 where
+pub record ArePullRows (unions : List Bits) (outside : Bits) (rows : List (List Bool)) : Type
+    0 where
   pub count : length rows ≡ length unions
   pub each : (e : ℕ) → e < length unions → IsPullSet unions outside e (row_of rows e)
 
@@ -53,42 +55,59 @@ Before c d w e = (c < w) ⊎ ((c ≡ w) × (d < e))
 pub record AreFirstsTo (rows : List (List Bool)) (w e : ℕ) (firsts : List ℕ) : Type 0 where
   pub inside : (i : ℕ) → i < length firsts → slice_index firsts i < length rows
   pub first : (i : ℕ) → i < length firsts → IsFirstPlace rows (slice_index firsts i)
-  pub below : (i : ℕ) → i < length firsts → Before (pulled rows (slice_index firsts i)) (slice_index firsts i) w e
-  pub complete : (d : ℕ) → d < length rows → IsFirstPlace rows d → Before (pulled rows d) d w e → (i : ℕ) × (i < length firsts) × (slice_index firsts i ≡ d)
-  pub ordered : (i j : ℕ) → i < j → j < length firsts → Before (pulled rows (slice_index firsts i)) (slice_index firsts i) (pulled rows (slice_index firsts j)) (slice_index firsts j)
+  pub below : (i : ℕ) → i < length firsts
+      → Before (pulled rows (slice_index firsts i)) (slice_index firsts i) w e
+  pub complete : (d : ℕ) → d < length rows → IsFirstPlace rows d → Before (pulled rows d) d w e
+      → (i : ℕ) × (i < length firsts) × (slice_index firsts i ≡ d)
+  pub ordered : (i j : ℕ) → i < j → j < length firsts
+      → Before (pulled rows (slice_index firsts i)) (slice_index firsts i)
+      (pulled rows (slice_index firsts j)) (slice_index firsts j)
 
 -- the first places before e, ascending, with their counts, which are all below a number
-pub record AreListed (rows : List (List Bool)) (e : ℕ) (places counts : List ℕ) (above : ℕ) : Type 0 where
+pub record AreListed (rows : List (List Bool)) (e : ℕ) (places counts : List ℕ) (above : ℕ) : Type
+    0 where
   pub same : length counts ≡ length places
   pub inside : (i : ℕ) → i < length places → slice_index places i < e
   pub first : (i : ℕ) → i < length places → IsFirstPlace rows (slice_index places i)
-  pub counted : (i : ℕ) → i < length places → slice_index counts i ≡ pulled rows (slice_index places i)
+  pub counted : (i : ℕ) → i < length places
+      → slice_index counts i ≡ pulled rows (slice_index places i)
   pub below : (i : ℕ) → i < length places → slice_index counts i < above
-  pub complete : (d : ℕ) → d < e → IsFirstPlace rows d → (i : ℕ) × (i < length places) × (slice_index places i ≡ d)
+  pub complete : (d : ℕ) → d < e → IsFirstPlace rows d → (i : ℕ) × (i < length places)
+      × (slice_index places i ≡ d)
   pub ordered : (i j : ℕ) → i < j → j < length places → slice_index places i < slice_index places j
 
 -- in order, all first places
 pub record AreFirsts (rows : List (List Bool)) (firsts : List ℕ) : Type 0 where
   pub inside : (i : ℕ) → i < length firsts → slice_index firsts i < length rows
   pub first : (i : ℕ) → i < length firsts → IsFirstPlace rows (slice_index firsts i)
-  pub complete : (d : ℕ) → d < length rows → IsFirstPlace rows d → (i : ℕ) × (i < length firsts) × (slice_index firsts i ≡ d)
-  pub ordered : (i j : ℕ) → i < j → j < length firsts → Before (pulled rows (slice_index firsts i)) (slice_index firsts i) (pulled rows (slice_index firsts j)) (slice_index firsts j)
+  pub complete : (d : ℕ) → d < length rows → IsFirstPlace rows d → (i : ℕ) × (i < length firsts)
+      × (slice_index firsts i ≡ d)
+  pub ordered : (i j : ℕ) → i < j → j < length firsts
+      → Before (pulled rows (slice_index firsts i)) (slice_index firsts i)
+      (pulled rows (slice_index firsts j)) (slice_index firsts j)
 
 -- the places that come along with e and that it comes along with
 pub record IsMembers (rows : List (List Bool)) (e : ℕ) (members : List Bool) : Type 0 where
   pub places : length members ≡ length rows
   pub exact : (d : ℕ) → d < length rows → Has members d ↔ (Pulls rows e d × Pulls rows d e)
 
--- of the first k first places, the numbers from 1 of those other than the i-th that come along with the i-th
+-- of the first k first places, the numbers from 1 of those other than the i-th that come along with
+-- the i-th
 abbrev pub needs_upto : List (List Bool) → List ℕ → ℕ → ℕ → List ℕ
 needs_upto rows firsts i zero = []
-needs_upto rows firsts i (suc k) = if (not (nat_eq k i) && slice_index_or (row_of rows (slice_index firsts i)) (slice_index firsts k) false) then needs_upto rows firsts i k ++ suc k ∷ [] else needs_upto rows firsts i k
+needs_upto rows firsts i (suc k) =
+    if (not (nat_eq k i) && slice_index_or (row_of rows (slice_index firsts i))
+    (slice_index firsts k) false) then needs_upto rows firsts i k ++ suc k ∷ [] else needs_upto rows
+    firsts i k
 
 -- the block of each first place
-pub record AreGrouped (rows : List (List Bool)) (firsts : List ℕ) (blocks : List Block) : Type 0 where
+pub record AreGrouped (rows : List (List Bool)) (firsts : List ℕ) (blocks : List Block) : Type
+    0 where
   pub count : length blocks ≡ length firsts
-  pub members : (i : ℕ) → i < length blocks → IsMembers rows (slice_index firsts i) (block_at blocks i).members
-  pub needs : (i : ℕ) → i < length blocks → (block_at blocks i).needs ≡ needs_upto rows firsts i (length firsts)
+  pub members : (i : ℕ) → i < length blocks
+      → IsMembers rows (slice_index firsts i) (block_at blocks i).members
+  pub needs : (i : ℕ) → i < length blocks
+      → (block_at blocks i).needs ≡ needs_upto rows firsts i (length firsts)
 
 -- the blocks of the places that are not outside
 pub record AreBlocksBy (unions : List Bits) (outside : Bits) (blocks : List Block) : Type 0 where

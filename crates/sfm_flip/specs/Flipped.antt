@@ -1,5 +1,6 @@
 -- A set function turned round: what a set is worth there is what its rest is worth, less the whole.
--- Textbook: Fujishige, Submodular Functions and Optimization, section 2.3 (dual supermodular and submodular functions).
+-- Textbook: Fujishige, Submodular Functions and Optimization, section 2.3 (dual supermodular and
+-- submodular functions).
 use Rattle.std.specs.Prelude.{List, length, map, ℕ, ℤ, pos, neg_ℤ, ◌-ℤ◌, unwrap_or}
 use Rattle.std.specs.Option.{option_map}
 use Rattle.sfm_spec.specs.Sets.{complement, whole_set}

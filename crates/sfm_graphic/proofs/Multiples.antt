@@ -1,4 +1,5 @@
--- Splits of bases m times: so much is over vertices that hold m times as much, and is within the bounds, as m times the base is.
+-- Splits of bases m times: so much is over vertices that hold m times as much, and is within the
+-- bounds, as m times the base is.
 use Rattle.std.proofs.Common.{◌≡◌, ℕ, List, length, map, set, replicate, ℤ, pos, ◌*ℤ◌, ap, ◌∙◌}
 use Rattle.std.proofs.Math.IntN.{*ℤ-zero}
 use Rattle.std.proofs.lemmas.List.{map-set}
@@ -18,17 +19,26 @@ use Rattle.sfm_graphic.proofs.Numbering.{vertices_bounded}
 
 module _ (m q w : ℤ) where
   -- vertices that hold q·w each, of which one holds nothing
-  vertices-times : (n a : ℕ) → map (λ b. m *ℤ b) (vertex_capacities n (q *ℤ w) a) ≡ vertex_capacities n ((m *ℤ q) *ℤ w) a
+  vertices-times : (n a : ℕ) → map (λ b. m *ℤ b)
+      (vertex_capacities n (q *ℤ w) a) ≡ vertex_capacities n ((m *ℤ q) *ℤ w) a
   vertices-times n a =
       map-set (λ b. m *ℤ b) (replicate n (q *ℤ w)) a (pos 0)
-      ∙ (ap (λ z. set (map (λ b. m *ℤ b) (replicate n (q *ℤ w))) a z) (*ℤ-zero m) ∙ ap (λ l. set l a (pos 0)) (replicate-times m q w n))
+      ∙ (ap (λ z. set (map (λ b. m *ℤ b) (replicate n (q *ℤ w))) a z) (*ℤ-zero m)
+      ∙ ap (λ l. set l a (pos 0)) (replicate-times m q w n))
 
   -- demands of edges m times
-  ends-times : (edges : List Edge) (n : ℕ) (x : List ℤ) (a : ℕ) → demands_times m (end_demands edges n (q *ℤ w) x a) ≡ end_demands edges n ((m *ℤ q) *ℤ w) (map (λ b. m *ℤ b) x) a
-  ends-times edges n x a = ap (λ l. record { demands = map (λ b. m *ℤ b) x; lists = end_lists edges; capacities = l }) (vertices-times n a)
+  ends-times : (edges : List Edge) (n : ℕ) (x : List ℤ) (a : ℕ)
+      → demands_times m (end_demands edges n (q *ℤ w) x a) ≡ end_demands edges n ((m *ℤ q) *ℤ w)
+      (map (λ b. m *ℤ b) x) a
+  ends-times edges n x a =
+      ap (λ l. record { demands = map (λ b. m *ℤ b) x; lists = end_lists edges; capacities = l })
+      (vertices-times n a)
 
 -- what is kept beside a base can be multiplied, where m times the base is one
-pub graphic_multiply : (s : Graphic) (m q : ℤ) (x : List ℤ) (note : RootSplit) → graphic_fits s.w s.ends note q x → IsFactor m → IsFactor (m *ℤ q) → length (map (λ a. m *ℤ a) x) ≡ length s.places → IsBase (times (m *ℤ q) (graphic_value s.w s.ends)) (map (λ a. m *ℤ a) x)
+pub graphic_multiply : (s : Graphic) (m q : ℤ) (x : List ℤ) (note : RootSplit)
+    → graphic_fits s.w s.ends note q x → IsFactor m → IsFactor (m *ℤ q)
+    → length (map (λ a. m *ℤ a) x) ≡ length s.places
+    → IsBase (times (m *ℤ q) (graphic_value s.w s.ends)) (map (λ a. m *ℤ a) x)
     → CanMultiply m note.pair.kept.demand
 graphic_multiply s m q x note h few factor sized base =
     let all = capped_base s (m *ℤ q) factor (map (λ a. m *ℤ a) x) sized base in
@@ -36,12 +46,18 @@ graphic_multiply s m q x note h few factor sized base =
     rw h.split (record {
       low = few.low;
       amounts = capped_amounts _ _ all;
-      bounded = rw (vertices-times m q s.w n note.root) (vertices_bounded n ((m *ℤ q) *ℤ s.w) note.root all.low all.high);
+      bounded = rw (vertices-times m q s.w n note.root)
+          (vertices_bounded n ((m *ℤ q) *ℤ s.w) note.root all.low all.high);
     })
 
 -- and m times as much fits that
-pub graphic_multiplied : (s : Graphic) (m q : ℤ) (x : List ℤ) (note made : RootSplit) → graphic_fits s.w s.ends note q x → made.pair.kept.demand ≡ demands_times m note.pair.kept.demand → made.root ≡ note.root → AreBeside made.pair → graphic_fits s.w s.ends made (m *ℤ q) (map (λ a. m *ℤ a) x)
+pub graphic_multiplied : (s : Graphic) (m q : ℤ) (x : List ℤ) (note made : RootSplit)
+    → graphic_fits s.w s.ends note q x
+    → made.pair.kept.demand ≡ demands_times m note.pair.kept.demand → made.root ≡ note.root
+    → AreBeside made.pair → graphic_fits s.w s.ends made (m *ℤ q) (map (λ a. m *ℤ a) x)
 graphic_multiplied s m q x note made h kept root spare = record {
-  split = rw root (kept ∙ (ap (demands_times m) h.split ∙ ends-times m q s.w (numbered s.ends) (vertex_count s.ends) x note.root));
+  split = rw root
+      (kept ∙ (ap (demands_times m) h.split
+      ∙ ends-times m q s.w (numbered s.ends) (vertex_count s.ends) x note.root));
   spare = spare;
 }

@@ -1,6 +1,6 @@
--- The tests of bases as demands that are split over slots: each edge over its two ends, the capacity of one vertex being 0.
--- Demands can be split exactly where they pass the test.
--- Textbook: Schrijver, Combinatorial Optimization, section 22 (Hall's condition).
+-- The tests of bases as demands that are split over slots: each edge over its two ends, the
+-- capacity of one vertex being 0. Demands can be split exactly where they pass the test. Textbook:
+-- Schrijver, Combinatorial Optimization, section 22 (Hall's condition).
 use Rattle.std.proofs.Common.{◌≡◌, ◌≢◌, ℕ, zero, suc, ◌<◌, Bool, true, false, not, ◌&&◌, ◌||◌, List, [], ◌∷◌, length, get_or, set, replicate, nat_eq, ℤ, pos, ◌*ℤ◌, ◌≤ℤ◌, refl, sym, ap, ◌∙◌, arith, ⊎_elim, length-set, get_or-set_other, get_or-set_same}
 use Rattle.std.specs.List.{All}
 use Rattle.std.proofs.lemmas.Bool.{cases_eq}
@@ -24,27 +24,35 @@ use Rattle.sfm_graphic.proofs.MatroidTests.{sum-but}
 
 -- ---- what vertices hold, but one
 
-pub but-sum : (m : ℕ) (lists : List (List ℕ)) (s : List Bool) (c : ℤ) (a : ℕ) → a < m → sum_over (slots_of m lists s) (set (replicate m c) a (pos 0)) ≡ (c *ℤ pos (count_below m (λ v. listed lists s v && not (nat_eq v a))))
+pub but-sum : (m : ℕ) (lists : List (List ℕ)) (s : List Bool) (c : ℤ) (a : ℕ) → a < m
+    → sum_over (slots_of m lists s)
+    (set (replicate m c) a (pos 0))
+    ≡ (c *ℤ pos (count_below m (λ v. listed lists s v && not (nat_eq v a))))
 but-sum m lists s c a lt =
     let z = slots_of m lists s in
     let l = length-slots_of m lists s in
     let h = rw l at (sum-but z c a (omega (arith, l, lt))) in
-    let e = count-same m (λ v. get_or z v false && not (nat_eq v a)) (λ v. listed lists s v && not (nat_eq v a)) (λ v lv. ap (λ b. b && not (nat_eq v a)) (slots_of-at m lists s v lv)) in
+    let e = count-same m (λ v. get_or z v false && not (nat_eq v a))
+    (λ v. listed lists s v && not (nat_eq v a))
+    (λ v lv. ap (λ b. b && not (nat_eq v a)) (slots_of-at m lists s v lv)) in
     h ∙ ap (λ i. c *ℤ pos i) e
 
 -- ---- edges, each with its ends
 
 pub length-ends : (edges : List Edge) → length (end_lists edges) ≡ length edges
 length-ends [] = refl
-length-ends (edge ∷ edges) = let r : length (end_lists edges) ≡ length edges = length-ends edges in omega (arith, r)
+length-ends (edge ∷ edges) = let r : length (end_lists edges) ≡ length edges = length-ends
+    edges in omega (arith, r)
 
-pub touches-listed : (edges : List Edge) (s : List Bool) (v : ℕ) → listed (end_lists edges) s v ≡ touches edges s v
+pub touches-listed : (edges : List Edge) (s : List Bool) (v : ℕ)
+    → listed (end_lists edges) s v ≡ touches edges s v
 touches-listed [] s v = refl
 touches-listed (edge ∷ edges) [] v = refl
-touches-listed (edge ∷ edges) (b ∷ s) v = rw (touches-listed edges s v, plain (nat_eq edge.head v)) refl where
-  plain : (b : Bool) → (b || false) ≡ b
-  plain true = refl
-  plain false = refl
+touches-listed (edge ∷ edges) (b ∷ s) v = rw (touches-listed edges s v, plain (nat_eq edge.head v))
+    refl where
+      plain : (b : Bool) → (b || false) ≡ b
+      plain true = refl
+      plain false = refl
 
 pub ends_exist : (edges : List Edge) (m : ℕ) → EndsBelow edges m → AreBelow m (end_lists edges)
 ends_exist [] m below i d lt = absurd (omega (arith, lt))
@@ -53,36 +61,57 @@ ends_exist (edge ∷ edges) m below zero d lt = two where
   two zero d lt = (below 0 (omega arith)).0
   two (suc zero) d lt = (below 0 (omega arith)).1
   two (suc (suc i)) d lt = absurd (omega (arith, lt))
-ends_exist (edge ∷ edges) m below (suc i) d lt = ends_exist edges m (λ e le. below (suc e) (omega arith)) i d (omega arith)
+ends_exist (edge ∷ edges) m below (suc i) d lt =
+    ends_exist edges m (λ e le. below (suc e) (omega arith)) i d (omega arith)
 
-module _ (edges : List Edge) (m : ℕ) (below : EndsBelow edges m) (c : ℤ) (x : List ℤ) (sized : length x ≡ length edges) (a : ℕ) (lt : a < m) where
+module _ (edges : List Edge) (m : ℕ) (below : EndsBelow edges m) (c : ℤ) (x : List ℤ)
+    (sized : length x ≡ length edges) (a : ℕ) (lt : a < m) where
   vertices : length (vertex_capacities m c a) ≡ m
   vertices = length-set (replicate m c) a (pos 0) ∙ length-replicate m c
 
   -- what the ends of a part hold
-  pub ends-sum : (s : List Bool) → sum_over (slots_of m (end_lists edges) s) (vertex_capacities m c a) ≡ (c *ℤ pos (ends_but edges m a s))
+  pub ends-sum : (s : List Bool)
+      → sum_over (slots_of m (end_lists edges) s)
+      (vertex_capacities m c a) ≡ (c *ℤ pos (ends_but edges m a s))
   ends-sum s =
-      let e = count-same m (λ v. listed (end_lists edges) s v && not (nat_eq v a)) (λ v. touches edges s v && not (nat_eq v a)) (λ v lv. ap (λ b. b && not (nat_eq v a)) (touches-listed edges s v)) in
+      let e = count-same m (λ v. listed (end_lists edges) s v && not (nat_eq v a))
+      (λ v. touches edges s v && not (nat_eq v a))
+      (λ v lv. ap (λ b. b && not (nat_eq v a)) (touches-listed edges s v)) in
       but-sum m (end_lists edges) s c a lt ∙ ap (λ i. c *ℤ pos i) e
 
   -- what is split passes the test
-  pub split_within_ends : CanBeMet x (end_lists edges) (vertex_capacities m c a) → IsWithinEnds edges m c x a
+  pub split_within_ends : CanBeMet x (end_lists edges) (vertex_capacities m c a)
+      → IsWithinEnds edges m c x a
   split_within_ends can s ks =
-      let exist : AreBelow (length (vertex_capacities m c a)) (end_lists edges) = rw vertices (ends_exist edges m below) in
-      let h = rw vertices at (hall_easy x (end_lists edges) (vertex_capacities m c a) s (length-ends edges ∙ sym sized) exist (ks ∙ sym sized) can) in
+      let exist : AreBelow (length (vertex_capacities m c a)) (end_lists edges) = rw vertices
+      (ends_exist edges m below) in
+      let h = rw vertices at (hall_easy x (end_lists edges) (vertex_capacities m c a) s
+      (length-ends edges ∙ sym sized) exist (ks ∙ sym sized) can) in
       let e = ends-sum s in
       omega (arith, ints, h, e)
 
   -- what passes it is split
-  pub within_ends_split : pos 0 ≤ℤ c → AreCounts x → IsWithinEnds edges m c x a → CanBeMet x (end_lists edges) (vertex_capacities m c a)
+  pub within_ends_split : pos 0 ≤ℤ c → AreCounts x → IsWithinEnds edges m c x a
+      → CanBeMet x (end_lists edges) (vertex_capacities m c a)
   within_ends_split low counts within =
-      let exist : AreBelow (length (vertex_capacities m c a)) (end_lists edges) = rw vertices (ends_exist edges m below) in
-      hall x (end_lists edges) (vertex_capacities m c a) (length-ends edges ∙ sym sized) exist counts caps (λ s ks. rw vertices (let h = within s (ks ∙ sized) in let e = ends-sum s in omega (arith, ints, h, e))) where
-        caps : (s : ℕ) → s < length (vertex_capacities m c a) → pos 0 ≤ℤ get_or (vertex_capacities m c a) s (pos 0)
+      let exist : AreBelow (length (vertex_capacities m c a)) (end_lists edges) = rw vertices
+      (ends_exist edges m below) in
+      hall x (end_lists edges) (vertex_capacities m c a) (length-ends edges ∙ sym sized) exist
+      counts caps (λ s ks. rw vertices
+      (let h = within s (ks ∙ sized) in let e = ends-sum s in omega (arith, ints, h, e))) where
+        caps : (s : ℕ) → s < length (vertex_capacities m c a)
+            → pos 0 ≤ℤ get_or (vertex_capacities m c a) s (pos 0)
         caps s ls =
             let v = vertices in
             let l = length-replicate m c in
             ⊎_elim
-            (λ (same : s ≡ a). rw (same, get_or-set_same (replicate m c) a (pos 0) (pos 0) (omega (arith, l, lt))) (omega (arith, ints)))
-            (λ (ne : s ≢ a). rw (get_or-set_other (replicate m c) a s (pos 0) (pos 0) ne, get_or-replicate m s c (pos 0) (omega (arith, ls, v))) low)
+            (λ (same : s ≡ a). rw (
+              same,
+              get_or-set_same (replicate m c) a (pos 0) (pos 0) (omega (arith, l, lt)),
+            )
+            (omega (arith, ints)))
+            (λ (ne : s ≢ a). rw (
+              get_or-set_other (replicate m c) a s (pos 0) (pos 0) ne,
+              get_or-replicate m s c (pos 0) (omega (arith, ls, v)),
+            ) low)
             (cases_eq s a)

@@ -6,10 +6,16 @@ use Rattle.sfm_graphic.specs.Numbered.{IsTail}
 use Rattle.sfm_graphic.proofs.Labels.{length-edges}
 use Rattle.sfm_graphic.proofs.Numbering.{pair-edge}
 
-pub tail_at : (pairs : List (ℕ × ℕ)) (a e : ℕ) → e < length pairs → (get_or pairs e (0, 0)).0 ≡ a → IsTail (edges_of pairs) a
-tail_at pairs a e lt is = (e, (let l = length-edges pairs in omega (arith, l, lt)), sym is ∙ sym (ap (λ (edge : Edge). edge.tail) (pair-edge pairs e lt)))
+pub tail_at : (pairs : List (ℕ × ℕ)) (a e : ℕ) → e < length pairs → (get_or pairs e (0, 0)).0 ≡ a
+    → IsTail (edges_of pairs) a
+tail_at pairs a e lt is = (
+  e,
+  (let l = length-edges pairs in omega (arith, l, lt)),
+  sym is ∙ sym (ap (λ (edge : Edge). edge.tail) (pair-edge pairs e lt)),
+)
 
-pub no_tail : (pairs : List (ℕ × ℕ)) (a : ℕ) → ((e : ℕ) → e < length pairs → (get_or pairs e (0, 0)).0 ≢ a) → IsTail (edges_of pairs) a → ⊥
+pub no_tail : (pairs : List (ℕ × ℕ)) (a : ℕ)
+    → ((e : ℕ) → e < length pairs → (get_or pairs e (0, 0)).0 ≢ a) → IsTail (edges_of pairs) a → ⊥
 no_tail pairs a none (e, lt, is) =
     let l = length-edges pairs in
     let le : e < length pairs = omega (arith, l, lt) in

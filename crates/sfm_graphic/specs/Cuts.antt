@@ -9,7 +9,8 @@ use Rattle.sfm_matroid.specs.Counts.{count_below}
 abbrev pub touches : List Edge → List Bool → ℕ → Bool
 touches [] s v = false
 touches (edge ∷ edges) [] v = false
-touches (edge ∷ edges) (b ∷ s) v = (b && (nat_eq edge.tail v || nat_eq edge.head v)) || touches edges s v
+touches (edge ∷ edges) (b ∷ s) v = (b && (nat_eq edge.tail v || nat_eq edge.head v)) || touches
+    edges s v
 
 -- how many of m vertices other than a are ends of edges of s
 abbrev pub ends_but : List Edge → ℕ → ℕ → List Bool → ℕ
@@ -17,4 +18,5 @@ ends_but edges m a s = count_below m (λ v. touches edges s v && not (nat_eq v a
 
 -- no set of edges gets more than c for each of its ends but a, of m vertices
 abbrev pub IsWithinEnds : List Edge → ℕ → ℤ → List ℤ → ℕ → Type 0
-IsWithinEnds edges m c x a = (s : List Bool) → length s ≡ length edges → sum_over s x ≤ℤ (c *ℤ pos (ends_but edges m a s))
+IsWithinEnds edges m c x a = (s : List Bool) → length s ≡ length edges
+    → sum_over s x ≤ℤ (c *ℤ pos (ends_but edges m a s))

@@ -1,6 +1,7 @@
--- Edges taken one after another unless they close a trail: the ends of a taken edge get one label, and an edge whose ends have
--- one label is not taken. How many are taken of a set is its rank. Its weighted rank, and the base that the taken edges give.
--- Textbook: Schrijver, Combinatorial Optimization, sections 39 and 50 (Kruskal's method).
+-- Edges taken one after another unless they close a trail: the ends of a taken edge get one label,
+-- and an edge whose ends have one label is not taken. How many are taken of a set is its rank. Its
+-- weighted rank, and the base that the taken edges give. Textbook: Schrijver, Combinatorial
+-- Optimization, sections 39 and 50 (Kruskal's method).
 use Rattle.std.proofs.Common.{ℕ, zero, suc, ◌<◌, Bool, true, false, not, ◌&&◌, List, length, get_or, set, nat_eq, if◌then◌else◌, ℤ, pos, ◌*ℤ◌}
 use Rattle.sfm_spec.specs.Sets.{empty_set, size, whole_set}
 use Rattle.sfm_spec.specs.Kinds.{Edge, no_edge}
@@ -17,11 +18,13 @@ renamed b a l = if nat_eq l b then a else l
 -- the labels after those edges of s that are numbered below n
 abbrev pub label : List Edge → List Bool → ℕ → ℕ → ℕ
 label edges s zero x = x
-label edges s (suc n) x = if get_or s n false then renamed (label edges s n (edge_at edges n).tail) (label edges s n (edge_at edges n).head) (label edges s n x) else label edges s n x
+label edges s (suc n) x = if get_or s n false then renamed (label edges s n (edge_at edges n).tail)
+    (label edges s n (edge_at edges n).head) (label edges s n x) else label edges s n x
 
 -- the edge n of s is taken: its ends are not joined before
 abbrev pub takes : List Edge → List Bool → ℕ → Bool
-takes edges s n = get_or s n false && not (nat_eq (label edges s n (edge_at edges n).tail) (label edges s n (edge_at edges n).head))
+takes edges s n = get_or s n false && not
+    (nat_eq (label edges s n (edge_at edges n).tail) (label edges s n (edge_at edges n).head))
 
 -- the edges of s below n that are taken
 abbrev pub taken : List Edge → List Bool → ℕ → List Bool
@@ -30,7 +33,8 @@ taken edges s (suc n) = if takes edges s n then set (taken edges s n) n true els
 
 -- each end of each edge is one of m vertices
 abbrev pub EndsBelow : List Edge → ℕ → Type 0
-EndsBelow edges m = (e : ℕ) → e < length edges → ((edge_at edges e).tail < m) × ((edge_at edges e).head < m)
+EndsBelow edges m = (e : ℕ) → e < length edges → ((edge_at edges e).tail < m)
+    × ((edge_at edges e).head < m)
 
 -- how many edges are taken of a set
 abbrev pub graphic_rank : List Edge → List Bool → ℕ

@@ -14,7 +14,11 @@ use Rattle.sfm_graphic.specs.declared.rooted.RootSplit.{RootSplit}
 
 -- edges as demands that are split over their ends, where each of m vertices holds c, but a nothing
 abbrev pub end_demands : List Edge → ℕ → ℤ → List ℤ → ℕ → Demands
-end_demands edges m c x a = record { demands = x; lists = end_lists edges; capacities = vertex_capacities m c a }
+end_demands edges m c x a = record {
+  demands = x;
+  lists = end_lists edges;
+  capacities = vertex_capacities m c a;
+}
 
 -- amounts for edges, and a number that each end may hold
 pub record AreEndAmounts (edges : List Edge) (c : ℤ) (x : List ℤ) : Type 0 where
@@ -29,7 +33,8 @@ pub record IsOverEnds (edges : List Edge) (m : ℕ) (d : Demands) : Type 0 where
   pub lists : d.lists ≡ end_lists edges
   pub vertices : length d.capacities ≡ m
 
--- what m vertices hold where some edges get no more than c for each of their ends but one: c, or more at such a one
+-- what m vertices hold where some edges get no more than c for each of their ends but one: c, or
+-- more at such a one
 pub record AreFreed (edges : List Edge) (m : ℕ) (c : ℤ) (x held : List ℤ) : Type 0 where
   pub places : length held ≡ m
   pub bounded : All IsCapacity held
@@ -41,8 +46,10 @@ pub record AreOverEnds (edges : List Edge) (m : ℕ) (pair : SplitPair) : Type 0
   pub kept : IsOverEnds edges m pair.kept.demand
   pub spare : AreBeside pair
 
--- the split of x in the test of its root, where each of m vertices holds c; and a spare one over the same ends
-pub record IsRootSplit (edges : List Edge) (m : ℕ) (c : ℤ) (x : List ℤ) (note : RootSplit) : Type 0 where
+-- the split of x in the test of its root, where each of m vertices holds c; and a spare one over
+-- the same ends
+pub record IsRootSplit (edges : List Edge) (m : ℕ) (c : ℤ) (x : List ℤ) (note : RootSplit) : Type
+    0 where
   pub split : note.pair.kept.demand ≡ end_demands edges m c x note.root
   pub spare : AreBeside note.pair
 

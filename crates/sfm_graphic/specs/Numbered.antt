@@ -1,5 +1,5 @@
--- Vertices numbered without gaps, in the order in which they first stand among the ends of the edges, and edges as demands on
--- their ends.
+-- Vertices numbered without gaps, in the order in which they first stand among the ends of the
+-- edges, and edges as demands on their ends.
 use Rattle.std.proofs.Common.{◌≡◌, ◌⊎◌, ℕ, ◌<◌, List, [], ◌∷◌, ◌++◌, length, map, nat_eq, ℤ, pos, replicate, set, if◌then◌else◌}
 use Rattle.std.specs.List.{position_or_len}
 use Rattle.sfm_spec.specs.Kinds.{Edge}
@@ -12,12 +12,14 @@ place_of vertices v = position_or_len (λ u. nat_eq u v) vertices
 
 -- v behind a list, unless it stands there
 abbrev pub with_vertex : List ℕ → ℕ → List ℕ
-with_vertex vertices v = if nat_eq (place_of vertices v) (length vertices) then vertices ++ v ∷ [] else vertices
+with_vertex vertices v = if nat_eq (place_of vertices v) (length vertices) then vertices ++ v ∷ []
+    else vertices
 
 -- the ends of edges behind a list, tail before head, but those that stand before
 abbrev pub vertices_after : List ℕ → List Edge → List ℕ
 vertices_after vertices [] = vertices
-vertices_after vertices (edge ∷ edges) = vertices_after (with_vertex (with_vertex vertices edge.tail) edge.head) edges
+vertices_after vertices (edge ∷ edges) =
+    vertices_after (with_vertex (with_vertex vertices edge.tail) edge.head) edges
 
 -- the ends of edges, each once, in the order in which they first stand, and how many they are
 abbrev pub vertices_of : List Edge → List ℕ
@@ -49,7 +51,8 @@ IsEnd edges v = (e : ℕ) × (e < length edges) × IsEndOf edges e v
 abbrev pub IsTail : List Edge → ℕ → Type 0
 IsTail edges v = (e : ℕ) × (e < length edges) × (v ≡ (edge_at edges e).tail)
 
--- no set of edges gets more than c for each of its ends but one, of m vertices, whichever tail that is
+-- no set of edges gets more than c for each of its ends but one, of m vertices, whichever tail that
+-- is
 abbrev pub PassesTails : List Edge → ℕ → ℤ → List ℤ → Type 0
 PassesTails edges m c x = (a : ℕ) → a < m → IsTail edges a → IsWithinEnds edges m c x a
 

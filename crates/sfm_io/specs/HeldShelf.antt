@@ -3,8 +3,8 @@ use Rattle.std.specs.Prelude.{◌≡◌, ℕ, ◌+◌, ◌≤◌, List, [], ◌�
 use Rattle.sfm_io.specs.Faults.{counted, are_past}
 use Rattle.sfm_io.specs.Shelf.{Texts, ShelfState, text_named}
 
--- The texts, the unread bytes of the open one, the counts of faults and calls, the most bytes that a read gives, the
--- numbers of the calls that fail, and the names that were asked for.
+-- The texts, the unread bytes of the open one, the counts of faults and calls, the most bytes that
+-- a read gives, the numbers of the calls that fail, and the names that were asked for.
 pub record HeldShelf : Type 0 where
   pub texts : Texts
   pub rest : List ℕ
@@ -16,7 +16,13 @@ pub record HeldShelf : Type 0 where
 
 -- What it tells: all, and that it is sound where no listed call is still to come.
 abbrev pub state_of : HeldShelf → ShelfState
-state_of s = record { texts = Some s.texts; rest = Some s.rest; faults = s.faults; sound = are_past s.failing s.calls; asked = s.asked }
+state_of s = record {
+  texts = Some s.texts;
+  rest = Some s.rest;
+  faults = s.faults;
+  sound = are_past s.failing s.calls;
+  asked = s.asked;
+}
 
 -- the bytes of the text at that place
 abbrev pub text_at : Texts → ℕ → List ℕ
@@ -41,10 +47,12 @@ abbrev pub IsListed : HeldShelf → Type 0
 IsListed s = Contains s.failing (s.calls + 1)
 
 -- `open(name)`: it fails exactly at a listed call or a name that is not held
-pub record OpensHeld {T E : Type 0} (before : HeldShelf) (name : List ℕ) (result : Result T E) (after : HeldShelf) : Type 0 where
+pub record OpensHeld {T E : Type 0} (before : HeldShelf) (name : List ℕ) (result : Result T E)
+    (after : HeldShelf) : Type 0 where
   pub opens : OnOk result ((¬ IsListed before) × IsSome (text_named before.texts name))
   pub fails : OnErr result (IsListed before ⊎ IsNone (text_named before.texts name))
-  pub change : after ≡ after_call before (is_ok result) (name ∷ []) (if is_ok result then unwrap_or (text_named before.texts name) [] else [])
+  pub change : after ≡ after_call before (is_ok result) (name ∷ [])
+      (if is_ok result then unwrap_or (text_named before.texts name) [] else [])
   pub counts : CountsOn before after
 
 -- how many bytes a read gives: the least of the piece, the buffer's length and what is left
@@ -52,11 +60,13 @@ abbrev pub read_count : HeldShelf → List ℕ → ℕ
 read_count s buffer = min (min s.piece (length buffer)) (length s.rest)
 
 -- `read(buf)`: it fails exactly at a listed call
-pub record ReadsHeld {E : Type 0} (before : HeldShelf) (old : List ℕ) (result : Result ℕ E) (new : List ℕ) (after : HeldShelf) : Type 0 where
+pub record ReadsHeld {E : Type 0} (before : HeldShelf) (old : List ℕ) (result : Result ℕ E)
+    (new : List ℕ) (after : HeldShelf) : Type 0 where
   pub passes : OnOk result (¬ IsListed before)
   pub fails : OnErr result (IsListed before)
   pub count : IfOk result (λ k. k ≡ read_count before old)
   pub bytes : IfOk result (λ k. new ≡ take k before.rest ++ drop k old)
   pub untouched : OnErr result (new ≡ old)
-  pub change : after ≡ after_call before (is_ok result) [] (if is_ok result then drop (read_count before old) before.rest else before.rest)
+  pub change : after ≡ after_call before (is_ok result) []
+      (if is_ok result then drop (read_count before old) before.rest else before.rest)
   pub counts : CountsOn before after

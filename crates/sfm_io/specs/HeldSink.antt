@@ -3,8 +3,8 @@ use Rattle.std.specs.Prelude.{◌≡◌, ℕ, ◌+◌, ◌-◌, ◌<◌, List, [
 use Rattle.sfm_io.specs.Faults.{counted}
 use Rattle.sfm_io.specs.Sink.{SinkState}
 
--- All bytes taken so far, the counts of faults and calls, the most bytes that a write takes, how many more bytes fit,
--- and the numbers of the calls that fail.
+-- All bytes taken so far, the counts of faults and calls, the most bytes that a write takes, how
+-- many more bytes fit, and the numbers of the calls that fail.
 pub record HeldSink : Type 0 where
   pub written : List ℕ
   pub faults : ℕ
@@ -27,14 +27,17 @@ write_count s bytes = min (min s.piece (length bytes)) s.room
 
 -- the sink after a call that took k of these bytes
 abbrev pub after_write : HeldSink → List ℕ → ℕ → HeldSink
-after_write s bytes k = record s { written = s.written ++ take k bytes; calls = counted s.calls; room = s.room - k }
+after_write s bytes k = record s
+    { written = s.written ++ take k bytes; calls = counted s.calls; room = s.room - k }
 
 -- the sink after a failed call
 abbrev pub after_fault : HeldSink → HeldSink
 after_fault s = record s { calls = counted s.calls; faults = counted s.faults }
 
--- `write(bytes)`: of bytes that are not empty it fails exactly at a listed call or with no room left
-pub record WritesHeld {E : Type 0} (before : HeldSink) (bytes : List ℕ) (result : Result ℕ E) (after : HeldSink) : Type 0 where
+-- `write(bytes)`: of bytes that are not empty it fails exactly at a listed call or with no room
+-- left
+pub record WritesHeld {E : Type 0} (before : HeldSink) (bytes : List ℕ) (result : Result ℕ E)
+    (after : HeldSink) : Type 0 where
   pub empty : bytes ≡ [] → (result ≡ Ok 0) × (after ≡ before)
   pub passes : OnOk result (0 < length bytes → ¬ IsStopped before)
   pub fails : OnErr result ((0 < length bytes) × IsStopped before)

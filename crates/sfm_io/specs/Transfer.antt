@@ -35,17 +35,21 @@ IsStop before Long after = ⊥
 IsStop before Memory after = ⊤
 
 -- one read of at most so many bytes, which are put behind those that were there
-pub record ReadsOn (before : ShelfState) (had : List ℕ) (most : ℕ) (result : Result ℕ ReadEnd) (has : List ℕ) (after : ShelfState) : Type 0 where
+pub record ReadsOn (before : ShelfState) (had : List ℕ) (most : ℕ) (result : Result ℕ ReadEnd)
+    (has : List ℕ) (after : ShelfState) : Type 0 where
   pub kept : KeepsShelf [] before after
   pub count : IfOk result (λ k. (length has ≡ length had + k) × (k ≤ most))
-  pub taken : OnOk result ((bytes : List ℕ) × (has ≡ had ++ bytes) × Consumes before.rest after.rest bytes)
+  pub taken : OnOk result ((bytes : List ℕ) × (has ≡ had ++ bytes)
+      × Consumes before.rest after.rest bytes)
   pub ends : IfOk result (λ k. k ≡ 0 → IsAtEnd before.rest)
   pub stop : IfErr result (λ end. IsStop before end after)
 
 -- `write_all(bytes)` on a sink: all of them were taken, or a front of them and the count rose
-pub record WritesAll {T E : Type 0} (before : SinkState) (bytes : List ℕ) (result : Result T E) (after : SinkState) : Type 0 where
+pub record WritesAll {T E : Type 0} (before : SinkState) (bytes : List ℕ) (result : Result T E)
+    (after : SinkState) : Type 0 where
   pub grows : before.faults ≤ after.faults
   pub whole : OnOk result (after.written ≡ append_known before.written bytes)
-  pub front : OnErr result ((k : ℕ) × (k < length bytes) × (after.written ≡ append_known before.written (take k bytes)))
+  pub front : OnErr result ((k : ℕ) × (k < length bytes)
+      × (after.written ≡ append_known before.written (take k bytes)))
   pub rose : OnErr result (Rose before.faults after.faults)
   pub empty : bytes ≡ [] → after ≡ before

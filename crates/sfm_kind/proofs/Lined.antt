@@ -1,4 +1,5 @@
--- The lines of an instance: where the terms of each stand, and what is kept as a line is added or taken out.
+-- The lines of an instance: where the terms of each stand, and what is kept as a line is added or
+-- taken out.
 use Rattle.std.proofs.Common.{tests, nat_eq, false, ◌≡◌, ℕ, zero, suc, ◌+◌, ◌<◌, ◌≤◌, ◌^◌, List, [], ◌∷◌, ◌++◌, length, get_or, take, drop, map, remove, ℤ, pos, ◌+ℤ◌, ◌≤ℤ◌, refl, sym, ap, ◌∙◌, arith}
 use Rattle.std.proofs.lemmas.Int.{ints}
 use Rattle.std.proofs.lemmas.List.{map-append, length-append, length-drop, length-take-le, take_more}
@@ -12,7 +13,8 @@ use Rattle.sfm_kind.proofs.Removed.{cut_out, in_bounds-cut}
 
 -- ---- sums over two lists, and over the first of one
 
-pub support-append : (terms more : List Kind) → support_of (terms ++ more) ≡ support_of terms + support_of more
+pub support-append : (terms more : List Kind)
+    → support_of (terms ++ more) ≡ support_of terms + support_of more
 support-append terms more =
     let a = sum-map length (map kind_places terms) in
     let b = sum-map length (map kind_places more) in
@@ -20,16 +22,25 @@ support-append terms more =
     let d = sum_by-append length (map kind_places terms) (map kind_places more) in
     rw (map-append kind_places terms more) (omega (arith, a, b, c, d))
 
-pub total_size-append : (terms more : List Kind) → total_size_of (terms ++ more) ≡ (total_size_of terms +ℤ total_size_of more)
+pub total_size-append : (terms more : List Kind)
+    → total_size_of (terms ++ more) ≡ (total_size_of terms +ℤ total_size_of more)
 total_size-append [] more = omega (arith, ints)
 total_size-append (term ∷ terms) more = omega (arith, ints, total_size-append terms more)
 
 -- one more of the first terms
-pub support_more : (terms : List Kind) (i : ℕ) (term : Kind) → i < length terms → term ≡ get_or terms i term → support_of (take (i + 1) terms) ≡ support_of (take i terms) + length (kind_places term)
-support_more terms i term lt is = ap support_of (take_more terms i term lt ∙ ap (λ t. take i terms ++ t ∷ []) (sym is)) ∙ support-push (take i terms) term
+pub support_more : (terms : List Kind) (i : ℕ) (term : Kind) → i < length terms
+    → term ≡ get_or terms i term → support_of (take (i + 1) terms) ≡ support_of
+    (take i terms) + length (kind_places term)
+support_more terms i term lt is =
+    ap support_of (take_more terms i term lt ∙ ap (λ t. take i terms ++ t ∷ []) (sym is))
+    ∙ support-push (take i terms) term
 
-pub total_size_more : (terms : List Kind) (i : ℕ) (term : Kind) → i < length terms → term ≡ get_or terms i term → total_size_of (take (i + 1) terms) ≡ (total_size_of (take i terms) +ℤ kind_size term)
-total_size_more terms i term lt is = ap total_size_of (take_more terms i term lt ∙ ap (λ t. take i terms ++ t ∷ []) (sym is)) ∙ total_size-push (take i terms) term
+pub total_size_more : (terms : List Kind) (i : ℕ) (term : Kind) → i < length terms
+    → term ≡ get_or terms i term → total_size_of
+    (take (i + 1) terms) ≡ (total_size_of (take i terms) +ℤ kind_size term)
+total_size_more terms i term lt is =
+    ap total_size_of (take_more terms i term lt ∙ ap (λ t. take i terms ++ t ∷ []) (sym is))
+    ∙ total_size-push (take i terms) term
 
 -- the first terms have no more than all
 pub support-first : (terms : List Kind) (i : ℕ) → support_of (take i terms) ≤ support_of terms
@@ -41,7 +52,8 @@ support-first (term ∷ terms) (suc i) =
     let b = support-append (term ∷ []) (take i terms) in
     omega (arith, r, a, b)
 
-pub total_size-first : (terms : List Kind) (i : ℕ) → total_size_of (take i terms) ≤ℤ total_size_of terms
+pub total_size-first : (terms : List Kind) (i : ℕ)
+    → total_size_of (take i terms) ≤ℤ total_size_of terms
 total_size-first terms zero = total_size-low terms
 total_size-first [] (suc i) = omega (arith, ints)
 total_size-first (term ∷ terms) (suc i) = omega (arith, ints, total_size-first terms i)
@@ -49,13 +61,23 @@ total_size-first (term ∷ terms) (suc i) = omega (arith, ints, total_size-first
 -- ---- where the terms of a line stand
 
 -- the terms of the first lines, and of one more
-pub terms_in_more : (lines : List ℕ) (i layers : ℕ) → i < length lines → layers ≡ get_or lines i layers → terms_in (take (i + 1) lines) ≡ terms_in (take i lines) + width_of layers
-terms_in_more lines i layers lt is = ap terms_in (take_more lines i layers lt ∙ ap (λ t. take i lines ++ t ∷ []) (sym is)) ∙ terms_in-push (take i lines) layers
+pub terms_in_more : (lines : List ℕ) (i layers : ℕ) → i < length lines
+    → layers ≡ get_or lines i layers
+    → terms_in (take (i + 1) lines) ≡ terms_in (take i lines) + width_of layers
+terms_in_more lines i layers lt is =
+    ap terms_in (take_more lines i layers lt ∙ ap (λ t. take i lines ++ t ∷ []) (sym is))
+    ∙ terms_in-push (take i lines) layers
 
 pub terms_in-first : (lines : List ℕ) (i : ℕ) → terms_in (take i lines) ≤ terms_in lines
-terms_in-first lines i = omega (arith, sum-map width_of (take i lines), sum-map width_of lines, sum_by-take-le width_of lines i)
+terms_in-first lines i = omega (
+  arith,
+  sum-map width_of (take i lines),
+  sum-map width_of lines,
+  sum_by-take-le width_of lines i,
+)
 
-terms_in-remove : (lines : List ℕ) (i layers : ℕ) → i < length lines → layers ≡ get_or lines i layers → terms_in (remove lines i) + width_of layers ≡ terms_in lines
+terms_in-remove : (lines : List ℕ) (i layers : ℕ) → i < length lines
+    → layers ≡ get_or lines i layers → terms_in (remove lines i) + width_of layers ≡ terms_in lines
 terms_in-remove lines i layers lt is =
     let a = sum-map width_of (remove lines i) in
     let b = sum-map width_of lines in
@@ -64,7 +86,9 @@ terms_in-remove lines i layers lt is =
     omega (arith, a, b, c, d)
 
 -- the terms of one more of the first lines are few enough too
-pub before-fits : (lines : List ℕ) (i d before width : ℕ) → i < length lines → terms_in lines ≤ 16384 → before ≡ terms_in (take i lines) → width ≡ width_of (get_or lines i d) → before + width ≤ 16384
+pub before-fits : (lines : List ℕ) (i d before width : ℕ) → i < length lines
+    → terms_in lines ≤ 16384 → before ≡ terms_in (take i lines)
+    → width ≡ width_of (get_or lines i d) → before + width ≤ 16384
 before-fits lines i d before width lt few is more =
     let a = sum-map width_of (take i lines) in
     let b = sum-map width_of lines in
@@ -72,7 +96,9 @@ before-fits lines i d before width lt few is more =
     omega (arith, a, b, c, few, is, more)
 
 -- so are the places of one more of the first terms
-pub places-fit : (terms : List Kind) (i : ℕ) (term : Kind) (before : ℕ) → i < length terms → term ≡ get_or terms i term → support_of terms ≤ 16384 → before ≡ support_of (take i terms) → before + length (kind_places term) ≤ 16384
+pub places-fit : (terms : List Kind) (i : ℕ) (term : Kind) (before : ℕ) → i < length terms
+    → term ≡ get_or terms i term → support_of terms ≤ 16384 → before ≡ support_of (take i terms)
+    → before + length (kind_places term) ≤ 16384
 places-fit terms i term before lt is few so_far =
     let e = support_more terms i term lt is in
     let m = support-first terms (i + 1) in
@@ -85,7 +111,9 @@ pub record IsNextSize (terms : List Kind) (i : ℕ) (total size : ℤ) : Type 0 
   pub small : (total +ℤ size) ≤ℤ pos (10 ^ 18)
   pub next : (total +ℤ size) ≡ total_size_of (take (i + 1) terms)
 
-pub size-next : (terms : List Kind) (i : ℕ) (term : Kind) (total size : ℤ) → i < length terms → term ≡ get_or terms i term → total_size_of terms ≤ℤ pos (10 ^ 18) → total ≡ total_size_of (take i terms) → size ≡ kind_size term → IsNextSize terms i total size
+pub size-next : (terms : List Kind) (i : ℕ) (term : Kind) (total size : ℤ) → i < length terms
+    → term ≡ get_or terms i term → total_size_of terms ≤ℤ pos (10 ^ 18)
+    → total ≡ total_size_of (take i terms) → size ≡ kind_size term → IsNextSize terms i total size
 size-next terms i term total size lt is few so_far more =
     let e = total_size_more terms i term lt is in
     let m = total_size-first terms (i + 1) in
@@ -106,12 +134,21 @@ width-layered zero lt = absurd (omega (arith, lt))
 width-layered (suc n) lt = let no : nat_eq (suc n) 0 ≡ false = grind (arith, tests) in rw no refl
 
 -- with the terms of one more line, which is layered
-pub kept-layered : (names : List (List ℕ)) (terms more : List Kind) (lines : List ℕ) (support : ℕ) (total : ℤ) → IsKept names terms lines support total → AreInBounds (length names) (terms ++ more) → 0 < length more
-    → IsKept names (terms ++ more) (lines ++ length more ∷ []) (support + support_of more) (total +ℤ total_size_of more)
+pub kept-layered : (names : List (List ℕ)) (terms more : List Kind) (lines : List ℕ) (support : ℕ)
+    (total : ℤ) → IsKept names terms lines support total
+    → AreInBounds (length names) (terms ++ more) → 0 < length more
+    → IsKept names (terms ++ more) (lines ++ length more ∷ []) (support + support_of more)
+    (total +ℤ total_size_of more)
 kept-layered names terms more lines support total h bounded some = record {
   named = h.named;
   bounded = bounded;
-  lined = omega (arith, terms_in-push lines (length more), width-layered (length more) some, h.lined, length-append terms more);
+  lined = omega (
+    arith,
+    terms_in-push lines (length more),
+    width-layered (length more) some,
+    h.lined,
+    length-append terms more,
+  );
   supported = omega (arith, h.supported, support-append terms more);
   totalled = omega (arith, ints, h.totalled, total_size-append terms more);
 }
@@ -123,7 +160,9 @@ pub record AreSums (support places : ℕ) (total size : ℤ) : Type 0 where
   pub small : size ≤ℤ pos (10 ^ 18)
   pub sum : IsSum total size
 
-pub layered-sums : (names : List (List ℕ)) (terms more : List Kind) (lines : List ℕ) (support : ℕ) (total : ℤ) → IsKept names terms lines support total → AreInBounds (length names) (terms ++ more)
+pub layered-sums : (names : List (List ℕ)) (terms more : List Kind) (lines : List ℕ) (support : ℕ)
+    (total : ℤ) → IsKept names terms lines support total
+    → AreInBounds (length names) (terms ++ more)
     → AreSums support (support_of more) total (total_size_of more)
 layered-sums names terms more lines support total h bounded =
     let known = kept-total names terms lines support total h in
@@ -142,18 +181,28 @@ layered-sums names terms more lines support total h bounded =
     }
 
 -- the terms of line i are all there
-pub line-within : (names : List (List ℕ)) (terms : List Kind) (lines : List ℕ) (support : ℕ) (total : ℤ) → IsKept names terms lines support total → (i layers : ℕ) → i < length lines → layers ≡ get_or lines i layers
-    → (terms_in (take i lines) + width_of layers ≡ terms_in (take (suc i) lines)) × (terms_in (take i lines) + width_of layers ≤ length terms)
+pub line-within : (names : List (List ℕ)) (terms : List Kind) (lines : List ℕ) (support : ℕ)
+    (total : ℤ) → IsKept names terms lines support total → (i layers : ℕ) → i < length lines
+    → layers ≡ get_or lines i layers
+    → (terms_in (take i lines) + width_of layers ≡ terms_in (take (suc i) lines))
+    × (terms_in (take i lines) + width_of layers ≤ length terms)
 line-within names terms lines support total h i layers lt is =
     let e = terms_in_more lines i layers lt is in
     let m = terms_in-first lines (i + 1) in
-    let at : terms_in (take (suc i) lines) ≡ terms_in (take (i + 1) lines) = (let one : suc i ≡ i + 1 = omega arith in ap (λ n. terms_in (take n lines)) one) in
+    let at : terms_in (take (suc i) lines) ≡ terms_in
+    (take (i + 1) lines) =
+    (let one : suc i ≡ i + 1 = omega arith in ap (λ n. terms_in (take n lines)) one) in
     (omega (arith, e, at), omega (arith, e, m, h.lined))
 
 -- without line i and its terms
-pub kept-dropped : (names : List (List ℕ)) (terms : List Kind) (lines : List ℕ) (support : ℕ) (total : ℤ) → IsKept names terms lines support total → (i layers : ℕ) → i < length lines → layers ≡ get_or lines i layers
-    → (left : ℕ) (rest : ℤ) → left ≡ support_of (cut_out terms (terms_in (take i lines)) (width_of layers)) → rest ≡ total_size_of (cut_out terms (terms_in (take i lines)) (width_of layers))
-    → IsKept names (cut_out terms (terms_in (take i lines)) (width_of layers)) (remove lines i) left rest
+pub kept-dropped : (names : List (List ℕ)) (terms : List Kind) (lines : List ℕ) (support : ℕ)
+    (total : ℤ) → IsKept names terms lines support total → (i layers : ℕ) → i < length lines
+    → layers ≡ get_or lines i layers
+    → (left : ℕ) (rest : ℤ) → left ≡ support_of
+    (cut_out terms (terms_in (take i lines)) (width_of layers))
+    → rest ≡ total_size_of (cut_out terms (terms_in (take i lines)) (width_of layers))
+    → IsKept names (cut_out terms (terms_in (take i lines)) (width_of layers)) (remove lines i) left
+    rest
 kept-dropped names terms lines support total h i layers lt is left rest supported totalled =
     let first = terms_in (take i lines) in
     let count = width_of layers in

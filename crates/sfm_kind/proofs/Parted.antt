@@ -30,18 +30,29 @@ use Rattle.sfm_kind.proofs.Stepped.{step-is, step-small}
 
 -- ---- how many kept elements are independent
 
-pub uniform-over : (cap : ℤ) (keep : List Bool) → pos 0 ≤ℤ cap → IsGreatestWeight (IsWithinCap cap) (ones (length keep)) keep (int_min (pos (size keep)) cap)
+pub uniform-over : (cap : ℤ) (keep : List Bool) → pos 0 ≤ℤ cap
+    → IsGreatestWeight (IsWithinCap cap) (ones (length keep)) keep (int_min (pos (size keep)) cap)
 uniform-over cap keep low =
-    let is : pos (uniform_rank cap keep) ≡ int_min (pos (size keep)) cap = omega (arith, ints, clamps, low) in
+    let is : pos (uniform_rank cap keep) ≡ int_min (pos (size keep))
+    cap = omega (arith, ints, clamps, low) in
     subst (λ r. IsGreatestWeight (IsWithinCap cap) (ones (length keep)) keep r) is
-    (greatest-of-rank (length keep) (IsWithinCap cap) keep (uniform_rank cap keep) refl (uniform-ranks (length keep) cap low keep refl))
+    (greatest-of-rank (length keep) (IsWithinCap cap) keep (uniform_rank cap keep) refl
+    (uniform-ranks (length keep) cap low keep refl))
 
-pub rank-over : (IsIndependent : List Bool → Type 0) (keep : List Bool) (r : ℤ) → (n : ℕ) × (r ≡ pos n) × IsRank IsIndependent keep n → IsGreatestWeight IsIndependent (ones (length keep)) keep r
-rank-over IsIndependent keep r (n, same, is) = subst (λ a. IsGreatestWeight IsIndependent (ones (length keep)) keep a) (sym same) (greatest-of-rank (length keep) IsIndependent keep n refl is)
+pub rank-over : (IsIndependent : List Bool → Type 0) (keep : List Bool) (r : ℤ) → (n : ℕ)
+    × (r ≡ pos n) × IsRank IsIndependent keep n
+    → IsGreatestWeight IsIndependent (ones (length keep)) keep r
+rank-over IsIndependent keep r (n, same, is) =
+    subst (λ a. IsGreatestWeight IsIndependent (ones (length keep)) keep a) (sym same)
+    (greatest-of-rank (length keep) IsIndependent keep n refl is)
 
-pub ranks-over : (IsIndependent : List Bool → Type 0) (keep : List Bool) {E : Type 0} (result : Result ℤ E) → IfOk result (λ r. (n : ℕ) × (r ≡ pos n) × IsRank IsIndependent keep n) → IfOk result (λ r. IsGreatestWeight IsIndependent (ones (length keep)) keep r)
+pub ranks-over : (IsIndependent : List Bool → Type 0) (keep : List Bool) {E : Type 0}
+    (result : Result ℤ E) → IfOk result (λ r. (n : ℕ) × (r ≡ pos n) × IsRank IsIndependent keep n)
+    → IfOk result (λ r. IsGreatestWeight IsIndependent (ones (length keep)) keep r)
 ranks-over IsIndependent keep result h =
-    IfOk-weaker result (λ r. (n : ℕ) × (r ≡ pos n) × IsRank IsIndependent keep n) (λ r. IsGreatestWeight IsIndependent (ones (length keep)) keep r) (λ r is. rank-over IsIndependent keep r is) h
+    IfOk-weaker result (λ r. (n : ℕ) × (r ≡ pos n) × IsRank IsIndependent keep n)
+    (λ r. IsGreatestWeight IsIndependent (ones (length keep)) keep r)
+    (λ r is. rank-over IsIndependent keep r is) h
 
 pub over-low : (rank : Kind) (keep : List Bool) (r : ℤ) → IsRankOver rank keep r → pos 0 ≤ℤ r
 over-low rank keep r h =
@@ -51,11 +62,38 @@ over-low rank keep r h =
 
 -- ---- a part by its data
 
-pub part-restricted : (rank : Kind) (keep : List Bool) (w : ℤ) (part : Kind) → length keep ≡ length (kind_places rank) → IsKeptPart rank keep w part → IsRestricted rank keep w part
-part-restricted (Uniform term) keep w (Uniform part) each (places, number, same) = record { kind = tt; places = places; factor = number; alike = λ u lu. rw same (uniform-spread term.cap keep u lu) }
-part-restricted (Laminar term) keep w (Laminar part) each (places, number, same) = record { kind = tt; places = places; factor = number; alike = λ u lu. rw same (laminar-spread (length term.places) term.groups keep u term.grouped) }
-part-restricted (Graphic term) keep w (Graphic part) each (places, number, same) = record { kind = tt; places = places; factor = number; alike = λ u lu. rw same (graphic-spread keep term.ends (each ∙ sym term.same_count) u lu) }
-part-restricted (Transversal term) keep w (Transversal part) each (places, number, same) = record { kind = tt; places = places; factor = number; alike = λ u lu. rw same (transversal-spread keep term.entries (each ∙ sym term.same_count) u lu) }
+pub part-restricted : (rank : Kind) (keep : List Bool) (w : ℤ) (part : Kind)
+    → length keep ≡ length (kind_places rank) → IsKeptPart rank keep w part
+    → IsRestricted rank keep w part
+part-restricted (Uniform term) keep w (Uniform part) each (places, number, same) =
+    record {
+      kind = tt;
+      places = places;
+      factor = number;
+      alike = λ u lu. rw same (uniform-spread term.cap keep u lu);
+    }
+part-restricted (Laminar term) keep w (Laminar part) each (places, number, same) =
+    record {
+      kind = tt;
+      places = places;
+      factor = number;
+      alike = λ u lu. rw same (laminar-spread (length term.places) term.groups keep u term.grouped);
+    }
+part-restricted (Graphic term) keep w (Graphic part) each (places, number, same) =
+    record {
+      kind = tt;
+      places = places;
+      factor = number;
+      alike = λ u lu. rw same (graphic-spread keep term.ends (each ∙ sym term.same_count) u lu);
+    }
+part-restricted (Transversal term) keep w (Transversal part) each (places, number, same) =
+    record {
+      kind = tt;
+      places = places;
+      factor = number;
+      alike = λ u lu. rw same (transversal-spread keep term.entries (each ∙ sym term.same_count) u
+          lu);
+    }
 part-restricted _ keep w _ each h = absurd h
 
 -- ---- what each element of a layer counts
@@ -77,32 +115,51 @@ pub record IsNumber (rank : Kind) (keep : List Bool) (step w : ℤ) : Type 0 whe
   pub low : pos 0 ≤ℤ w
   pub given : IsGiven w
 
-pub layer-number : (rank : Kind) (weights levels : List ℤ) (j : ℕ) (r w : ℤ) → IsRankKind rank → length weights ≡ length (kind_places rank) → All (IsWeight (10 ^ 15)) weights → AreLevels weights levels → j < length levels
-    → ((a : ℤ) → IsGreatestWeight (IsIndependentIn rank) weights (whole_set (length weights)) a → (factor_of rank *ℤ a) ≤ℤ pos (10 ^ 18))
+pub layer-number : (rank : Kind) (weights levels : List ℤ) (j : ℕ) (r w : ℤ) → IsRankKind rank
+    → length weights ≡ length (kind_places rank) → All (IsWeight (10 ^ 15)) weights
+    → AreLevels weights levels → j < length levels
+    → ((a : ℤ) → IsGreatestWeight (IsIndependentIn rank) weights (whole_set (length weights)) a
+    → (factor_of rank *ℤ a) ≤ℤ pos (10 ^ 18))
     → IsRankOver rank (at_least (get_or levels j (pos 0)) weights) r
-    → ((r ≡ pos 0) × (w ≡ pos 0)) ⊎ ((r ≢ pos 0) × (w ≡ (factor_of rank *ℤ (get_or levels j (pos 0) -ℤ level_behind levels j))))
-    → IsNumber rank (at_least (get_or levels j (pos 0)) weights) (get_or levels j (pos 0) -ℤ level_behind levels j) w
-layer-number rank weights levels j r w kind each given are lt small over (inl (none, counts)) = record {
-  factor = inr (counts, subst (λ a. IsRankOver rank (at_least (get_or levels j (pos 0)) weights) a) none over);
-  low = omega (arith, ints, counts);
-  given = record { low = omega (arith, ints, counts); high = omega (arith, ints, counts) };
-}
+    → ((r ≡ pos 0) × (w ≡ pos 0))
+    ⊎ ((r ≢ pos 0)
+    × (w ≡ (factor_of rank *ℤ (get_or levels j (pos 0) -ℤ level_behind levels j))))
+    → IsNumber rank (at_least (get_or levels j (pos 0)) weights)
+    (get_or levels j (pos 0) -ℤ level_behind levels j) w
+layer-number rank weights levels j r w kind each given are lt small over (inl (none, counts)) =
+    record {
+      factor = inr (
+        counts,
+        subst (λ a. IsRankOver rank (at_least (get_or levels j (pos 0)) weights) a)
+            none over,
+      );
+      low = omega (arith, ints, counts);
+      given = record { low = omega (arith, ints, counts); high = omega (arith, ints, counts) };
+    }
 layer-number rank weights levels j r w kind each given are lt small over (inr (some, counts)) =
     let v = get_or levels j (pos 0) in
     let step = v -ℤ level_behind levels j in
     let is = step-is weights levels j given are lt in
-    let positive : All (λ a. pos 1 ≤ℤ a) weights = All-weaker (IsWeight (10 ^ 15)) (λ a. pos 1 ≤ℤ a) (λ a h. h.0) weights given in
+    let positive : All (λ a. pos 1 ≤ℤ a) weights = All-weaker (IsWeight (10 ^ 15)) (λ a. pos 1 ≤ℤ a)
+    (λ a h. h.0) weights given in
     let low = over-low rank (at_least v weights) r over in
     let one : pos 1 ≤ℤ r = above r low some in
-    let greatest = levels-weigh rank weights (record { kind = kind; each = each; positive = positive }) levels are (whole_set (length weights)) (length-replicate (length weights) _) in
-    let few = step-small rank weights v step r _ positive (factor-low rank) is.step_high over one greatest (small _ greatest) in
+    let greatest = levels-weigh rank weights
+    (record { kind = kind; each = each; positive = positive }) levels are
+    (whole_set (length weights)) (length-replicate (length weights) _) in
+    let few = step-small rank weights v step r _ positive (factor-low rank) is.step_high over one
+    greatest (small _ greatest) in
     let step_low = is.step_low in
-    let m = times-mono (factor_of rank) (pos 0) step (factor-low rank) (omega (arith, ints, step_low)) in
+    let m = times-mono (factor_of rank) (pos 0) step (factor-low rank)
+    (omega (arith, ints, step_low)) in
     let z = *ℤ-zero (factor_of rank) in
     record {
       factor = inl counts;
       low = omega (arith, ints, counts, m, z);
-      given = record { low = omega (arith, ints, counts, m, z); high = omega (arith, ints, counts, few) };
+      given = record {
+        low = omega (arith, ints, counts, m, z);
+        high = omega (arith, ints, counts, few);
+      };
     }
   where
     above : (r : ℤ) → pos 0 ≤ℤ r → r ≢ pos 0 → pos 1 ≤ℤ r

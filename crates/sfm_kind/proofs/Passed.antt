@@ -1,4 +1,5 @@
--- A factor and an amount that is moved are small, so that they are passed on in 128 bits as they are.
+-- A factor and an amount that is moved are small, so that they are passed on in 128 bits as they
+-- are.
 use Rattle.std.proofs.Common.{◌≡◌, ◌^◌, ℤ, pos, ◌≤ℤ◌, to_z, of_z, arith}
 use Rattle.std.specs.Int.{w128}
 use Rattle.std.proofs.lemmas.Int.{ints}

@@ -1,4 +1,5 @@
--- What the four kinds of rank share: each is a matroid with ranks, and its values and its size are by these.
+-- What the four kinds of rank share: each is a matroid with ranks, and its values and its size are
+-- by these.
 use Rattle.std.proofs.Common.{◌≡◌, ◌↔◌, ℕ, Bool, List, length, refl, subst}
 use Rattle.sfm_spec.specs.Terms.{SetFunction}
 use Rattle.sfm_spec.specs.Kinds.{IsForest, IsMatchable}
@@ -23,7 +24,8 @@ pub record IsRanked (k : ℕ) (IsIndependent : List Bool → Type 0) : Type 0 wh
   pub matroid : IsMatroid k IsIndependent
   pub ranks : AreRanks k IsIndependent rank
 
-pub kind-ranked : (kind : Kind) → IsRankKind kind → IsRanked (length (kind_places kind)) (IsIndependentIn kind)
+pub kind-ranked : (kind : Kind) → IsRankKind kind
+    → IsRanked (length (kind_places kind)) (IsIndependentIn kind)
 kind-ranked (Uniform term) is = record {
   rank = uniform_rank term.cap;
   matroid = uniform-matroid (length term.places) term.cap term.cap_low;
@@ -34,16 +36,18 @@ kind-ranked (Laminar term) is = record {
   matroid = caps-matroid (length term.places) term.groups term.grouped;
   ranks = caps-ranks (length term.places) term.groups term.grouped;
 }
-kind-ranked (Graphic term) is = subst (λ n. IsRanked n (IsForest term.ends)) term.same_count (record {
-  rank = graphic_rank term.ends;
-  matroid = forest-matroid term.ends;
-  ranks = graphic-ranks term.ends;
-})
-kind-ranked (Transversal term) is = subst (λ n. IsRanked n (IsMatchable term.entries)) term.same_count (record {
-  rank = transversal_rank term.entries;
-  matroid = matching-matroid (length term.entries) term.entries;
-  ranks = transversal-ranks term.entries;
-})
+kind-ranked (Graphic term) is = subst (λ n. IsRanked n (IsForest term.ends)) term.same_count
+    (record {
+      rank = graphic_rank term.ends;
+      matroid = forest-matroid term.ends;
+      ranks = graphic-ranks term.ends;
+    })
+kind-ranked (Transversal term) is =
+    subst (λ n. IsRanked n (IsMatchable term.entries)) term.same_count (record {
+      rank = transversal_rank term.entries;
+      matroid = matching-matroid (length term.entries) term.entries;
+      ranks = transversal-ranks term.entries;
+    })
 kind-ranked (Weight term) is = absurd is
 kind-ranked (Cut term) is = absurd is
 kind-ranked (Cover term) is = absurd is
@@ -52,7 +56,8 @@ kind-ranked (Table term) is = absurd is
 kind-ranked (Concave term) is = absurd is
 
 -- the values of a rank
-rank-values : (kind : Kind) (f : SetFunction) → IsRankKind kind → IsValueOf kind f ↔ IsWeightedRank (factor_of kind) (IsIndependentIn kind) (ones (length (kind_places kind))) f
+rank-values : (kind : Kind) (f : SetFunction) → IsRankKind kind → IsValueOf kind f
+    ↔ IsWeightedRank (factor_of kind) (IsIndependentIn kind) (ones (length (kind_places kind))) f
 rank-values (Uniform term) f is = (λ h. h, λ h. h)
 rank-values (Laminar term) f is = (λ h. h, λ h. h)
 rank-values (Graphic term) f is = (λ h. h, λ h. h)
@@ -64,14 +69,18 @@ rank-values (Need term) f is = absurd is
 rank-values (Table term) f is = absurd is
 rank-values (Concave term) f is = absurd is
 
-pub rank-valued : (kind : Kind) (f : SetFunction) → IsRankKind kind → IsValueOf kind f → IsWeightedRank (factor_of kind) (IsIndependentIn kind) (ones (length (kind_places kind))) f
+pub rank-valued : (kind : Kind) (f : SetFunction) → IsRankKind kind → IsValueOf kind f
+    → IsWeightedRank (factor_of kind) (IsIndependentIn kind) (ones (length (kind_places kind))) f
 rank-valued kind f is = (rank-values kind f is).0
 
-pub valued-rank : (kind : Kind) (f : SetFunction) → IsRankKind kind → IsWeightedRank (factor_of kind) (IsIndependentIn kind) (ones (length (kind_places kind))) f → IsValueOf kind f
+pub valued-rank : (kind : Kind) (f : SetFunction) → IsRankKind kind
+    → IsWeightedRank (factor_of kind) (IsIndependentIn kind) (ones (length (kind_places kind))) f
+    → IsValueOf kind f
 valued-rank kind f is = (rank-values kind f is).1
 
 -- the size of a rank is its value of all
-pub rank-sized : (kind : Kind) (f : SetFunction) → IsRankKind kind → size_by kind f ≡ value_of_all (length (kind_places kind)) f
+pub rank-sized : (kind : Kind) (f : SetFunction) → IsRankKind kind
+    → size_by kind f ≡ value_of_all (length (kind_places kind)) f
 rank-sized (Uniform term) f is = refl
 rank-sized (Laminar term) f is = refl
 rank-sized (Graphic term) f is = refl

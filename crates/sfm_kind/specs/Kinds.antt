@@ -1,4 +1,5 @@
--- What each kind of term tells of itself: a function by cases for each member of a term, then each law by cases.
+-- What each kind of term tells of itself: a function by cases for each member of a term, then each
+-- law by cases.
 use Rattle.std.specs.Prelude.{◌≡◌, Bool, List, [], ◌∷◌, length, ℤ, pos, neg_ℤ, ◌*ℤ◌, ◌≤ℤ◌, Some}
 use Rattle.std.specs.List.{All}
 use Rattle.sfm_spec.specs.Sets.{magnitudes}
@@ -63,7 +64,8 @@ kind_start (Laminar term) q = laminar_start (length term.places) q term.w term.g
 kind_start (Graphic term) q = graphic_start q term.w term.ends
 kind_start (Transversal term) q = transversal_start q term.w term.entries
 
--- where the value of a part takes no memory and is always told: the kinds whose values come by counting alone
+-- where the value of a part takes no memory and is always told: the kinds whose values come by
+-- counting alone
 abbrev pub kind_lean_value : Kind → Type 0
 kind_lean_value (Laminar term) = ⊥
 kind_lean_value (Graphic term) = ⊥
@@ -94,7 +96,8 @@ kind-family (Concave term) = concave-family term.values
 kind-family (Uniform term) = uniform-family term.w term.cap
 kind-family (Laminar term) = laminar-family (length term.places) term.w term.groups
 kind-family (Graphic term) = graphic-family (length term.places) term.w term.ends term.same_count
-kind-family (Transversal term) = transversal-family (length term.places) term.w term.entries term.same_count
+kind-family (Transversal term) = transversal-family (length term.places) term.w term.entries
+    term.same_count
 
 pub kind-submodular : (kind : Kind) → IsSubmodular (length (kind_places kind)) (kind_value kind)
 kind-submodular (Weight term) = weight-submodular _ term.weights term.same_count
@@ -104,23 +107,33 @@ kind-submodular (Need term) = need-submodular _ term.two
 kind-submodular (Table term) = term.lawful
 kind-submodular (Concave term) = concave-submodular _ term.values term.counted term.falling
 kind-submodular (Uniform term) = uniform-submodular _ term.w term.cap term.low term.cap_low
-kind-submodular (Laminar term) = laminar-submodular (length term.places) term.w term.groups term.low term.grouped
-kind-submodular (Graphic term) = graphic-submodular (length term.places) term.w term.ends term.same_count term.low
-kind-submodular (Transversal term) = transversal-submodular (length term.places) term.w term.entries term.same_count term.low
+kind-submodular (Laminar term) = laminar-submodular (length term.places) term.w term.groups term.low
+    term.grouped
+kind-submodular (Graphic term) = graphic-submodular (length term.places) term.w term.ends
+    term.same_count term.low
+kind-submodular (Transversal term) = transversal-submodular (length term.places) term.w term.entries
+    term.same_count term.low
 
-pub kind-bounded : (kind : Kind) (s : List Bool) (a : ℤ) → length s ≡ length (kind_places kind) → kind_value kind s ≡ Some a → (neg_ℤ (kind_size kind) ≤ℤ a) × (a ≤ℤ kind_size kind)
+pub kind-bounded : (kind : Kind) (s : List Bool) (a : ℤ) → length s ≡ length (kind_places kind)
+    → kind_value kind s ≡ Some a → (neg_ℤ (kind_size kind) ≤ℤ a) × (a ≤ℤ kind_size kind)
 kind-bounded (Weight term) s a h e = weight-bounded term.weights s a e
 kind-bounded (Cut term) s a h e = cut-bounded term.c s a term.low e
 kind-bounded (Cover term) s a h e = cover-bounded term.w s a term.low e
 kind-bounded (Need term) s a h e = need-bounded s a e
 kind-bounded (Table term) s a h e = table-bounded term.values s a e
 kind-bounded (Concave term) s a h e = concave-bounded term.values s a e
-kind-bounded (Uniform term) s a h e = uniform-bounded _ term.w term.cap s a term.low term.cap_low h e
-kind-bounded (Laminar term) s a h e = laminar-bounded (length term.places) term.w term.groups term.low term.grouped s a h e
-kind-bounded (Graphic term) s a h e = graphic-bounded (length term.places) term.w term.ends term.same_count term.low s a h e
-kind-bounded (Transversal term) s a h e = transversal-bounded (length term.places) term.w term.entries term.same_count term.low s a h e
+kind-bounded (Uniform term) s a h e = uniform-bounded _ term.w term.cap s a term.low term.cap_low h
+    e
+kind-bounded (Laminar term) s a h e = laminar-bounded (length term.places) term.w term.groups
+    term.low term.grouped s a h e
+kind-bounded (Graphic term) s a h e =
+    graphic-bounded (length term.places) term.w term.ends term.same_count term.low s a h e
+kind-bounded (Transversal term) s a h e =
+    transversal-bounded (length term.places) term.w term.entries term.same_count term.low s a h e
 
-pub kind-starts : (kind : Kind) (q : ℤ) → pos 1 ≤ℤ q → (length (kind_start kind q) ≡ length (kind_places kind)) × IsBase (times q (kind_value kind)) (kind_start kind q)
+pub kind-starts : (kind : Kind) (q : ℤ) → pos 1 ≤ℤ q
+    → (length (kind_start kind q) ≡ length (kind_places kind))
+    × IsBase (times q (kind_value kind)) (kind_start kind q)
 kind-starts (Weight term) q low = weight-starts _ term.weights q term.same_count
 kind-starts (Cut term) q low = cut-starts _ q term.c term.two low term.low
 kind-starts (Cover term) q low = cover-starts _ q term.w term.elements.some low term.low
@@ -128,23 +141,33 @@ kind-starts (Need term) q low = need-starts _ q term.two
 kind-starts (Table term) q low = table-starts _ q term.values low term.lawful
 kind-starts (Concave term) q low = concave-starts _ q term.values low term.counted term.falling
 kind-starts (Uniform term) q low = uniform-starts _ q term.w term.cap low term.low term.cap_low
-kind-starts (Laminar term) q low = laminar-starts (length term.places) term.w term.groups term.low term.grouped q low
-kind-starts (Graphic term) q low = graphic-starts (length term.places) term.w term.ends term.same_count term.low q low
-kind-starts (Transversal term) q low = transversal-starts (length term.places) term.w term.entries term.same_count term.low q low
+kind-starts (Laminar term) q low = laminar-starts (length term.places) term.w term.groups term.low
+    term.grouped q low
+kind-starts (Graphic term) q low =
+    graphic-starts (length term.places) term.w term.ends term.same_count term.low q low
+kind-starts (Transversal term) q low = transversal-starts (length term.places) term.w term.entries
+    term.same_count term.low q low
 
-pub kind-starts_small : (kind : Kind) (q : ℤ) → pos 1 ≤ℤ q → All (λ a. (neg_ℤ ((pos 2 *ℤ q) *ℤ kind_size kind) ≤ℤ a) × (a ≤ℤ ((pos 2 *ℤ q) *ℤ kind_size kind))) (kind_start kind q)
+pub kind-starts_small : (kind : Kind) (q : ℤ) → pos 1 ≤ℤ q
+    → All (λ a. (neg_ℤ ((pos 2 *ℤ q) *ℤ kind_size kind) ≤ℤ a)
+    × (a ≤ℤ ((pos 2 *ℤ q) *ℤ kind_size kind))) (kind_start kind q)
 kind-starts_small (Weight term) q low = weight-starts_small term.weights q low
 kind-starts_small (Cut term) q low = cut-starts_small q term.c low term.low
 kind-starts_small (Cover term) q low = cover-starts_small _ q term.w term.elements.some low term.low
 kind-starts_small (Need term) q low = need-starts_small q
 kind-starts_small (Table term) q low = table-starts_small _ q term.values low
 kind-starts_small (Concave term) q low = concave-starts_small _ q term.values low
-kind-starts_small (Uniform term) q low = uniform-starts_small _ q term.w term.cap low term.low term.cap_low
-kind-starts_small (Laminar term) q low = laminar-starts_small (length term.places) term.w term.groups term.low term.grouped q low
-kind-starts_small (Graphic term) q low = graphic-starts_small (length term.places) term.w term.ends term.same_count term.low q low
-kind-starts_small (Transversal term) q low = transversal-starts_small (length term.places) term.w term.entries term.same_count term.low q low
+kind-starts_small (Uniform term) q low =
+    uniform-starts_small _ q term.w term.cap low term.low term.cap_low
+kind-starts_small (Laminar term) q low =
+    laminar-starts_small (length term.places) term.w term.groups term.low term.grouped q low
+kind-starts_small (Graphic term) q low = graphic-starts_small (length term.places) term.w term.ends
+    term.same_count term.low q low
+kind-starts_small (Transversal term) q low =
+    transversal-starts_small (length term.places) term.w term.entries term.same_count term.low q low
 
-pub kind-starts_times : (kind : Kind) (q : ℤ) → kind_start kind q ≡ map (λ a. q *ℤ a) (kind_start kind (pos 1))
+pub kind-starts_times : (kind : Kind) (q : ℤ)
+    → kind_start kind q ≡ map (λ a. q *ℤ a) (kind_start kind (pos 1))
 kind-starts_times (Weight term) q = weight-starts_times q term.weights
 kind-starts_times (Cut term) q = cut-starts_times q term.c
 kind-starts_times (Cover term) q = cover-starts_times (length term.places) q term.w

@@ -1,5 +1,5 @@
--- The limits within which an instance is kept: what each call over its terms asks of them, when one more term fits, and what
--- the running totals are.
+-- The limits within which an instance is kept: what each call over its terms asks of them, when one
+-- more term fits, and what the running totals are.
 use Rattle.std.specs.Prelude.{◌≡◌, ℕ, ◌+◌, ◌<◌, ◌≤◌, ◌^◌, List, length, map, ℤ, pos, ◌+ℤ◌, ◌≤ℤ◌}
 use Rattle.sfm_spec.specs.Bounds.{AreBounded, total_of}
 use Rattle.sfm_kind.specs.Names.{AreElementNames}
@@ -23,7 +23,8 @@ pub record HasRoomFor (terms : List Kind) (places : ℕ) (size : ℤ) : Type 0 w
   pub small : (total_size_of terms +ℤ size) ≤ℤ pos (10 ^ 18)
 
 -- what every instance keeps of its names, its terms, its lines and its running totals
-pub record IsKept (names : List (List ℕ)) (terms : List Kind) (lines : List ℕ) (support : ℕ) (total : ℤ) : Type 0 where
+pub record IsKept (names : List (List ℕ)) (terms : List Kind) (lines : List ℕ) (support : ℕ)
+    (total : ℤ) : Type 0 where
   pub named : AreElementNames names
   pub bounded : AreInBounds (length names) terms
   pub lined : terms_in lines ≡ length terms

@@ -30,27 +30,46 @@ laminar_start k q w groups = at_places (q *ℤ w) (basis_of k groups)
 pub laminar-family : (k : ℕ) (w : ℤ) (groups : List Group) → IsFamily k (laminar_value k w groups)
 laminar-family k w groups = rank-family k w (rank k groups)
 
-pub laminar-first : (k : ℕ) (groups : List Group) → AreGroups k groups → IsFirstBasis k (rank k groups) (basis_of k groups)
-laminar-first k groups ok = first_basis k (IsWithinCaps groups) (rank k groups) (caps-matroid k groups ok) (caps-ranks k groups ok) (grown k groups (whole_set k)) (caps-growth k groups ok (whole_set k))
+pub laminar-first : (k : ℕ) (groups : List Group) → AreGroups k groups
+    → IsFirstBasis k (rank k groups) (basis_of k groups)
+laminar-first k groups ok = first_basis k (IsWithinCaps groups) (rank k groups)
+    (caps-matroid k groups ok) (caps-ranks k groups ok) (grown k groups (whole_set k))
+    (caps-growth k groups ok (whole_set k))
 
-pub laminar-function : (k : ℕ) (w : ℤ) (groups : List Group) → AreGroups k groups → IsRankFunction k w (IsWithinCaps groups) (laminar_value k w groups)
-laminar-function k w groups ok = rank-function k w (rank k groups) (IsWithinCaps groups) (caps-ranks k groups ok)
+pub laminar-function : (k : ℕ) (w : ℤ) (groups : List Group) → AreGroups k groups
+    → IsRankFunction k w (IsWithinCaps groups) (laminar_value k w groups)
+laminar-function k w groups ok = rank-function k w (rank k groups) (IsWithinCaps groups)
+    (caps-ranks k groups ok)
 
 module _ (k : ℕ) (w : ℤ) (groups : List Group) (low : pos 0 ≤ℤ w) (ok : AreGroups k groups) where
   pub laminar-submodular : IsSubmodular k (laminar_value k w groups)
-  laminar-submodular = rank-law k w (IsWithinCaps groups) (rank k groups) low (caps-matroid k groups ok) (caps-ranks k groups ok)
+  laminar-submodular = rank-law k w (IsWithinCaps groups) (rank k groups) low
+      (caps-matroid k groups ok) (caps-ranks k groups ok)
 
-  pub laminar-bounded : (s : List Bool) (a : ℤ) → length s ≡ k → laminar_value k w groups s ≡ Some a → (neg_ℤ (laminar_size k w groups) ≤ℤ a) × (a ≤ℤ laminar_size k w groups)
-  laminar-bounded = rank-bounded k w (IsWithinCaps groups) (rank k groups) low (caps-matroid k groups ok) (caps-ranks k groups ok)
+  pub laminar-bounded : (s : List Bool) (a : ℤ) → length s ≡ k → laminar_value k w groups s ≡ Some a
+      → (neg_ℤ (laminar_size k w groups) ≤ℤ a) × (a ≤ℤ laminar_size k w groups)
+  laminar-bounded = rank-bounded k w (IsWithinCaps groups) (rank k groups) low
+      (caps-matroid k groups ok) (caps-ranks k groups ok)
 
-  pub laminar-greedy : (q : ℤ) → IsGreedy q (laminar_value k w groups) k (laminar_start k q w groups)
-  laminar-greedy = rank-greedy k w (IsWithinCaps groups) (rank k groups) low (caps-matroid k groups ok) (caps-ranks k groups ok) (basis_of k groups) (laminar-first k groups ok)
+  pub laminar-greedy : (q : ℤ) → IsGreedy q (laminar_value k w groups) k
+      (laminar_start k q w groups)
+  laminar-greedy = rank-greedy k w (IsWithinCaps groups) (rank k groups) low
+      (caps-matroid k groups ok) (caps-ranks k groups ok) (basis_of k groups)
+      (laminar-first k groups ok)
 
-  pub laminar-starts : (q : ℤ) → pos 1 ≤ℤ q → (length (laminar_start k q w groups) ≡ k) × IsBase (times q (laminar_value k w groups)) (laminar_start k q w groups)
-  laminar-starts = rank-starts k w (IsWithinCaps groups) (rank k groups) low (caps-matroid k groups ok) (caps-ranks k groups ok) (basis_of k groups) (laminar-first k groups ok)
+  pub laminar-starts : (q : ℤ) → pos 1 ≤ℤ q → (length (laminar_start k q w groups) ≡ k)
+      × IsBase (times q (laminar_value k w groups)) (laminar_start k q w groups)
+  laminar-starts = rank-starts k w (IsWithinCaps groups) (rank k groups) low
+      (caps-matroid k groups ok) (caps-ranks k groups ok) (basis_of k groups)
+      (laminar-first k groups ok)
 
-  pub laminar-starts_small : (q : ℤ) → pos 1 ≤ℤ q → All (λ a. (neg_ℤ ((pos 2 *ℤ q) *ℤ laminar_size k w groups) ≤ℤ a) × (a ≤ℤ ((pos 2 *ℤ q) *ℤ laminar_size k w groups))) (laminar_start k q w groups)
-  laminar-starts_small = rank-starts_small k w (IsWithinCaps groups) (rank k groups) low (caps-matroid k groups ok) (caps-ranks k groups ok) (basis_of k groups) (laminar-first k groups ok)
+  pub laminar-starts_small : (q : ℤ) → pos 1 ≤ℤ q
+      → All (λ a. (neg_ℤ ((pos 2 *ℤ q) *ℤ laminar_size k w groups) ≤ℤ a)
+      × (a ≤ℤ ((pos 2 *ℤ q) *ℤ laminar_size k w groups))) (laminar_start k q w groups)
+  laminar-starts_small = rank-starts_small k w (IsWithinCaps groups) (rank k groups) low
+      (caps-matroid k groups ok) (caps-ranks k groups ok) (basis_of k groups)
+      (laminar-first k groups ok)
 
-pub laminar-starts_times : (k : ℕ) (q w : ℤ) (groups : List Group) → laminar_start k q w groups ≡ map (λ a. q *ℤ a) (laminar_start k (pos 1) w groups)
+pub laminar-starts_times : (k : ℕ) (q w : ℤ) (groups : List Group)
+    → laminar_start k q w groups ≡ map (λ a. q *ℤ a) (laminar_start k (pos 1) w groups)
 laminar-starts_times k q w groups = at_places-times q w (basis_of k groups)

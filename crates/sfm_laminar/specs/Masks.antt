@@ -27,15 +27,20 @@ Lists es e = (i : ℕ) × (i < length es) × (get_or es i 0 ≡ e)
 
 pub mask-lists : (k : ℕ) (es : List ℕ) (e : ℕ) → Has (mask k es) e → Lists es e
 mask-lists k [] e h = absurd (nothing k e h)
-mask-lists k (d ∷ es) e h = ⊎_elim (λ (same : e ≡ d). (0, omega arith, sym same)) (λ has. let (i, lt, is) = mask-lists k es e has in (suc i, omega arith, is)) (has_set (mask k es) d e h)
+mask-lists k (d ∷ es) e h = ⊎_elim (λ (same : e ≡ d). (0, omega arith, sym same))
+    (λ has. let (i, lt, is) = mask-lists k es e has in (suc i, omega arith, is))
+    (has_set (mask k es) d e h)
 
-pub lists-mask : (k : ℕ) (es : List ℕ) (e : ℕ) → All (λ i. i < k) es → Lists es e → Has (mask k es) e
+pub lists-mask : (k : ℕ) (es : List ℕ) (e : ℕ) → All (λ i. i < k) es → Lists es e
+    → Has (mask k es) e
 lists-mask k [] e below (i, lt, is) = absurd (omega arith)
 lists-mask k (d ∷ es) e below (zero, lt, is) =
     let h = All-head (λ i. i < k) d es below in
     let len = length-mask k es in
     rw (← is) (get_or-set_same (mask k es) d true false (omega (arith, h, len)))
-lists-mask k (d ∷ es) e below (suc i, lt, is) = set_has (mask k es) d e (lists-mask k es e (All-tail (λ i. i < k) d es below) (i, omega arith, is))
+lists-mask k (d ∷ es) e below (suc i, lt, is) =
+    set_has (mask k es) d e (lists-mask k es e (All-tail (λ i. i < k) d es below)
+    (i, omega arith, is))
 
 -- ---- sums and counts over the members
 
@@ -45,7 +50,8 @@ sum_listed (e ∷ es) x = get_or x e (pos 0) +ℤ sum_listed es x
 
 pub fresh : (k e : ℕ) (es : List ℕ) → IsAscending (e ∷ es) → get_or (mask k es) e false ≡ false
 fresh k e es up = ⊎_elim
-    (λ has. let (i, lt, is) = mask-lists k es e has in let u = up 0 (suc i) (omega arith) (omega arith) in absurd (omega (arith, u, is)))
+    (λ has. let (i, lt, is) = mask-lists k es e has in let u = up 0 (suc i) (omega arith)
+    (omega arith) in absurd (omega (arith, u, is)))
     (λ out. out)
     (cases_Bool (get_or (mask k es) e false))
 
@@ -56,31 +62,39 @@ ascending-tail e es up i j lt in_range = up (suc i) (suc j) (omega arith) (omega
 abbrev pub count_listed : List ℕ → List Bool → ℕ
 count_listed es t = count_by (λ e. get_or t e false) es
 
-pub count-cons : (e : ℕ) (es : List ℕ) (t : List Bool) → count_listed (e ∷ es) t ≡ cond (get_or t e false) 1 0 + count_listed es t
+pub count-cons : (e : ℕ) (es : List ℕ) (t : List Bool)
+    → count_listed (e ∷ es) t ≡ cond (get_or t e false) 1 0 + count_listed es t
 count-cons e es t = sum_by-cons (λ i. cond (get_or t i false) 1 0) e es
 
 intersection-none : (k : ℕ) (t : List Bool) → size (intersection (empty_set k) t) ≡ 0
 intersection-none zero t = refl
 intersection-none (suc k) [] = refl
-intersection-none (suc k) (b ∷ t) = size-cons false (intersection (empty_set k) t) ∙ (let r = intersection-none k t in omega (arith, r))
+intersection-none (suc k) (b ∷ t) = size-cons false (intersection (empty_set k) t)
+    ∙ (let r = intersection-none k t in omega (arith, r))
 
-intersection-in : (s t : List Bool) (e : ℕ) → length s ≡ length t → e < length s → get_or s e false ≡ false → size (intersection (set s e true) t) ≡ cond (get_or t e false) 1 0 + size (intersection s t)
+intersection-in : (s t : List Bool) (e : ℕ) → length s ≡ length t → e < length s
+    → get_or s e false ≡ false → size (intersection (set s e true) t) ≡ cond (get_or t e false) 1
+    0 + size (intersection s t)
 intersection-in [] t e h lt out = absurd (omega arith)
 intersection-in (a ∷ s) [] e h lt out = absurd (omega arith)
 intersection-in (true ∷ s) (b ∷ t) zero h lt out = absurd (false≢true (sym out))
-intersection-in (false ∷ s) (b ∷ t) zero h lt out = let l = size-cons b (intersection s t) in let r = size-cons false (intersection s t) in omega (arith, l, r)
+intersection-in (false ∷ s) (b ∷ t) zero h lt out =
+    let l = size-cons b (intersection s t) in let r = size-cons false
+    (intersection s t) in omega (arith, l, r)
 intersection-in (a ∷ s) (b ∷ t) (suc e) h lt out =
     let l = size-cons (a && b) (intersection (set s e true) t) in
     let m = size-cons (a && b) (intersection s t) in
     let r = intersection-in s t e (omega arith) (omega arith) out in
     omega (arith, l, m, r)
 
-pub count-mask : (k : ℕ) (es : List ℕ) (t : List Bool) → length t ≡ k → IsAscending es → All (λ i. i < k) es → size (intersection (mask k es) t) ≡ count_listed es t
+pub count-mask : (k : ℕ) (es : List ℕ) (t : List Bool) → length t ≡ k → IsAscending es
+    → All (λ i. i < k) es → size (intersection (mask k es) t) ≡ count_listed es t
 count-mask k [] t kt up below = intersection-none k t
 count-mask k (e ∷ es) t kt up below =
     let h = All-head (λ i. i < k) e es below in
     let len = length-mask k es in
     let r = count-mask k es t kt (ascending-tail e es up) (All-tail (λ i. i < k) e es below) in
-    let p = intersection-in (mask k es) t e (len ∙ sym kt) (omega (arith, h, len)) (fresh k e es up) in
+    let p = intersection-in (mask k es) t e (len ∙ sym kt) (omega (arith, h, len))
+    (fresh k e es up) in
     let c = count-cons e es t in
     omega (arith, r, p, c)

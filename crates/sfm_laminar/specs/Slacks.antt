@@ -10,7 +10,8 @@ use Rattle.sfm_laminar.specs.declared.slacks.Slacks.{Slacks}
 -- what each group lacks
 pub record AreSlacks (q w : ℤ) (groups : List Group) (x slacks : List ℤ) : Type 0 where
   pub places : length slacks ≡ length groups
-  pub each : (i : ℕ) → i < length groups → slice_index_or slacks i (pos 0) ≡ slack_of q w x (group_at groups i)
+  pub each : (i : ℕ) → i < length groups
+      → slice_index_or slacks i (pos 0) ≡ slack_of q w x (group_at groups i)
 
 -- the places that have something
 pub record IsSupport (x : List ℤ) (s : List Bool) : Type 0 where

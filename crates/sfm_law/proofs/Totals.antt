@@ -4,7 +4,8 @@ use Rattle.std.proofs.lemmas.List.{drop_more}
 use Rattle.sfm_spec.specs.Bounds.{total_of}
 use Rattle.sfm_spec.specs.Sets.{whole_set, sum_over}
 
-pub total_of-drop : (x : List ℤ) (j : ℕ) → j < length x → total_of (drop j x) ≡ (get_or x j (pos 0) +ℤ total_of (drop (j + 1) x))
+pub total_of-drop : (x : List ℤ) (j : ℕ) → j < length x
+    → total_of (drop j x) ≡ (get_or x j (pos 0) +ℤ total_of (drop (j + 1) x))
 total_of-drop x j h = rw (drop_more x j (pos 0) h) refl
 
 pub total_of-whole : (x : List ℤ) → total_of x ≡ sum_over (whole_set (length x)) x

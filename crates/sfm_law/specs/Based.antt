@@ -6,7 +6,8 @@ use Rattle.sfm_spec.specs.Terms.{SetFunction, times, IsBase}
 use Rattle.sfm_law.specs.Room.{IsWithinRoom}
 
 -- x is a base of q times the term, and all numbers are within the bounds
-pub record IsBased {X : Type 0} (places : X → List ℕ) (value : X → SetFunction) (size : X → ℤ) (term : X) (q : ℤ) (x : List ℤ) : Type 0 where
+pub record IsBased {X : Type 0} (places : X → List ℕ) (value : X → SetFunction) (size : X → ℤ)
+    (term : X) (q : ℤ) (x : List ℤ) : Type 0 where
   pub factor : IsFactor q
   pub entries : length x ≡ length (places term)
   pub bounded : size term ≤ℤ pos (10 ^ 18)

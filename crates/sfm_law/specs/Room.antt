@@ -5,7 +5,8 @@ use Rattle.sfm_spec.specs.Terms.{SetFunction, IsBase, IsCapacity, IsUncapped, Is
 use Rattle.sfm_law.specs.declared.room.Room.{Room}
 use Rattle.sfm_law.specs.declared.room.Room.TheVariants.{Upto, Unbounded}
 
--- the room of (u, v): the greatest number that can be exchanged, or unbounded exactly where no allowed set splits u from v
+-- the room of (u, v): the greatest number that can be exchanged, or unbounded exactly where no
+-- allowed set splits u from v
 abbrev pub IsRoom : SetFunction → List ℤ → ℕ → ℕ → Room → Type 0
 IsRoom f x u v (Upto a) = IsCapacity f x u v a
 IsRoom f x u v Unbounded = IsUncapped f x u v × IsUnsplit f (length x) u v
@@ -19,7 +20,8 @@ AtMostRoom a Unbounded = Unit {0}
 abbrev pub IsWithinRoom : SetFunction → List ℤ → ℕ → ℕ → ℤ → Type 0
 IsWithinRoom f x u v a = (room : Room) × IsRoom f x u v room × AtMostRoom a room
 
--- a is the greatest number up to a limit by which u can be raised and v lowered so that a base stays
+-- a is the greatest number up to a limit by which u can be raised and v lowered so that a base
+-- stays
 pub record IsCapacityUpto (f : SetFunction) (x : List ℤ) (u v : ℕ) (limit a : ℤ) : Type 0 where
   pub low : pos 0 ≤ℤ a
   pub high : a ≤ℤ limit

@@ -9,7 +9,9 @@ use Rattle.sfm_spec.proofs.Ones.{ones-places, sum-ones}
 use Rattle.sfm_layers.specs.Weights.{IsGreatestWeight, IsWeightedRank}
 
 -- two greatest weights of one part are equal
-pub greatest-one : (IsIndependent : List Bool → Type 0) (weights : List ℤ) (s : List Bool) (a b : ℤ) → IsGreatestWeight IsIndependent weights s a → IsGreatestWeight IsIndependent weights s b → a ≡ b
+pub greatest-one : (IsIndependent : List Bool → Type 0) (weights : List ℤ) (s : List Bool) (a b : ℤ)
+    → IsGreatestWeight IsIndependent weights s a → IsGreatestWeight IsIndependent weights s b
+    → a ≡ b
 greatest-one IsIndependent weights s a b ha hb =
     let (t, lt, wt, it, et) = ha.reached in
     let (u, lu, wu, iu, eu) = hb.reached in
@@ -18,9 +20,16 @@ greatest-one IsIndependent weights s a b ha hb =
     omega (arith, ints, et, eu, above, below)
 
 -- a rank is the greatest weight of an independent part where each place weighs one
-pub greatest-of-rank : (k : ℕ) (IsIndependent : List Bool → Type 0) (s : List Bool) (r : ℕ) → length s ≡ k → IsRank IsIndependent s r → IsGreatestWeight IsIndependent (ones k) s (pos r)
+pub greatest-of-rank : (k : ℕ) (IsIndependent : List Bool → Type 0) (s : List Bool) (r : ℕ)
+    → length s ≡ k → IsRank IsIndependent s r → IsGreatestWeight IsIndependent (ones k) s (pos r)
 greatest-of-rank k IsIndependent s r ks h = record {
-  reached = (h.reached.0, h.reached.1, h.reached.2, h.reached.3, sum-ones k h.reached.0 (h.reached.1 ∙ ks) ∙ ap pos h.reached.4);
+  reached = (
+    h.reached.0,
+    h.reached.1,
+    h.reached.2,
+    h.reached.3,
+    sum-ones k h.reached.0 (h.reached.1 ∙ ks) ∙ ap pos h.reached.4,
+  );
   greatest = λ t lt within free.
       let sum = sum-ones k t (lt ∙ ks) in
       let most = h.greatest t lt within free in
@@ -28,7 +37,9 @@ greatest-of-rank k IsIndependent s r ks h = record {
 }
 
 -- such a greatest weight is a rank
-pub rank-of-greatest : (k : ℕ) (IsIndependent : List Bool → Type 0) (s : List Bool) (r : ℤ) → length s ≡ k → IsGreatestWeight IsIndependent (ones k) s r → (n : ℕ) × (r ≡ pos n) × IsRank IsIndependent s n
+pub rank-of-greatest : (k : ℕ) (IsIndependent : List Bool → Type 0) (s : List Bool) (r : ℤ)
+    → length s ≡ k → IsGreatestWeight IsIndependent (ones k) s r → (n : ℕ) × (r ≡ pos n)
+    × IsRank IsIndependent s n
 rank-of-greatest k IsIndependent s r ks h =
     let (t, lt, wt, it, et) = h.reached in
     let sum = sum-ones k t (lt ∙ ks) in
@@ -44,15 +55,18 @@ rank-of-greatest k IsIndependent s r ks h =
       },
     )
 
--- w times the rank is w times the greatest weight of an independent part where each place weighs one
-pub weighted-rank : (k : ℕ) (w : ℤ) (IsIndependent : List Bool → Type 0) (f : SetFunction) → IsRankFunction k w IsIndependent f → IsWeightedRank w IsIndependent (ones k) f
+-- w times the rank is w times the greatest weight of an independent part where each place weighs
+-- one
+pub weighted-rank : (k : ℕ) (w : ℤ) (IsIndependent : List Bool → Type 0) (f : SetFunction)
+    → IsRankFunction k w IsIndependent f → IsWeightedRank w IsIndependent (ones k) f
 weighted-rank k w IsIndependent f rank s places =
     let ks = places ∙ ones-places k in
     let (r, h, value) = rank s ks in
     (pos r, greatest-of-rank k IsIndependent s r ks h, value)
 
 -- and back
-pub rank-weighted : (k : ℕ) (w : ℤ) (IsIndependent : List Bool → Type 0) (f : SetFunction) → IsWeightedRank w IsIndependent (ones k) f → IsRankFunction k w IsIndependent f
+pub rank-weighted : (k : ℕ) (w : ℤ) (IsIndependent : List Bool → Type 0) (f : SetFunction)
+    → IsWeightedRank w IsIndependent (ones k) f → IsRankFunction k w IsIndependent f
 rank-weighted k w IsIndependent f rank s ks =
     let (r, h, value) = rank s (ks ∙ sym (ones-places k)) in
     let (n, same, is) = rank-of-greatest k IsIndependent s r ks h in

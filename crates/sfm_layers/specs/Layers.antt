@@ -10,4 +10,5 @@ by_levels g (v ∷ levels) = ((v -ℤ next_level levels) *ℤ g v) +ℤ by_level
 
 -- the ranks of the places of s of each level or more, weighed by the levels
 abbrev pub layers_weight : (List Bool → ℕ) → List ℤ → List Bool → List ℤ → ℤ
-layers_weight rank weights s levels = by_levels (λ v. pos (rank (intersection s (at_least v weights)))) levels
+layers_weight rank weights s levels =
+    by_levels (λ v. pos (rank (intersection s (at_least v weights)))) levels

@@ -24,7 +24,8 @@ square-low (pos k) =
     let z = times-comm (pos k) (pos 0) in
     omega (arith, ints, m, z)
 square-low (negsuc k) =
-    let m = times-mono (pos (suc k)) (pos 0) (pos (suc k)) (omega (arith, ints)) (omega (arith, ints)) in
+    let m = times-mono (pos (suc k)) (pos 0) (pos (suc k)) (omega (arith, ints))
+    (omega (arith, ints)) in
     let z = times-comm (pos (suc k)) (pos 0) in
     let n = square-neg (negsuc k) in
     omega (arith, ints, m, z, n)
@@ -64,7 +65,8 @@ squares-part (suc k) (a ∷ z) = let r = squares-part k z in omega (arith, ints,
 -- a number of at least 10^15 + 1 has a square above 10^30
 far : (a : ℤ) → pos (10 ^ 15) <ℤ a → pos (10 ^ 30) <ℤ (a *ℤ a)
 far a more =
-    let m = times-mono a (pos (10 ^ 15)) a (omega (arith, ints, more)) (omega (arith, ints, more)) in
+    let m = times-mono a (pos (10 ^ 15)) a (omega (arith, ints, more))
+    (omega (arith, ints, more)) in
     let c = times-comm a (pos (10 ^ 15)) in
     omega (arith, ints, m, c, more)
 
@@ -72,7 +74,8 @@ far a more =
 pub root-small : (a : ℤ) → (a *ℤ a) ≤ℤ pos (10 ^ 30) → IsAtMost (10 ^ 15) a
 root-small a h = record {
   low = by_lt_z (pos (10 ^ 15)) (neg_ℤ a)
-      (λ more. let f = far (neg_ℤ a) more in let s = square-neg a in absurd (omega (arith, ints, f, s, h)))
+      (λ more. let f = far (neg_ℤ a) more in let s = square-neg
+      a in absurd (omega (arith, ints, f, s, h)))
       (λ le. omega (arith, ints, le));
   high = by_lt_z (pos (10 ^ 15)) a
       (λ more. let f = far a more in absurd (omega (arith, ints, f, h)))

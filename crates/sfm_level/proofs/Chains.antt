@@ -27,7 +27,8 @@ chain_rises terms n shift fit (suc k) rows last bases (mid, along, rest) =
     let up = one.1 in
     omega (arith, ints, up, r)
 
--- what k walks at the slope t do: the sum of min(z, 0) rises by at least k, and the squares fall by at least twice what it rises
+-- what k walks at the slope t do: the sum of min(z, 0) rises by at least k, and the squares fall by
+-- at least twice what it rises
 pub record AreLowered (terms : List Meaning) (n : ℕ) (t : ℤ) (k : ℕ) (before after : List (List ℤ))
     : Type 0 where
   pub rises : (deficit n (rest_at terms before (even_shift n t)) +ℤ pos k)
@@ -48,7 +49,8 @@ chain_lowers terms n t fit k rows last bases chain =
       falls = omega (arith, ints, same, less);
     }
 
--- where no walk joins at the slope one above the sum at any place, none leads to a place at which the sum is larger by two
+-- where no walk joins at the slope one above the sum at any place, none leads to a place at which
+-- the sum is larger by two
 pub none_rises : (terms : List Meaning) (n : ℕ) (rows : List (List ℤ)) → AreTerms n terms
     → AreBases (pos 1) terms rows
     → ((e : ℕ) → e < n → (first : ℕ) (steps : List Step)

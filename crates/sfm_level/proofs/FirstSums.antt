@@ -60,6 +60,7 @@ module _ {X : Type 0} (places : X → List ℕ) (value : X → SetFunction) (siz
   first_sum-in [] placed e = (omega (arith, ints), omega (arith, ints))
   first_sum-in (x ∷ xs) placed e =
       let one = entry-in (pos 2 *ℤ size x) (let l = low x in omega (arith, ints, l)) (places x)
-      (All-head (IsPlaced n) (places x) (map places xs) placed).distinct (start x) (starts_small x) e in
+      (All-head (IsPlaced n) (places x) (map places xs) placed).distinct (start x) (starts_small x)
+      e in
       let r = first_sum-in xs (All-tail (IsPlaced n) (places x) (map places xs) placed) e in
       (omega (arith, ints, one.0, r.0), omega (arith, ints, one.1, r.1))

@@ -1,4 +1,5 @@
--- What is kept while bases are levelled: that it holds at first and after walks at a whole slope, and what it tells of numbers.
+-- What is kept while bases are levelled: that it holds at first and after walks at a whole slope,
+-- and what it tells of numbers.
 use Rattle.std.proofs.Common.{◌≡◌, ℕ, ◌*◌, ◌+◌, ◌<◌, ◌≤◌, ◌^◌, List, [], ◌∷◌, map, get_or, replicate, ℤ, pos, neg_ℤ, ◌+ℤ◌, ◌-ℤ◌, ◌*ℤ◌, ◌≤ℤ◌, ◌<ℤ◌, ap, ◌∙◌, arith}
 use Rattle.std.specs.List.{All}
 use Rattle.std.proofs.lemmas.Int.{ints}
@@ -31,14 +32,17 @@ module _ {X N : Type 0} {T : Ghosts X N} {terms : List X} {n : ℕ} {graph : Gra
   -- which the graph keeps
   pub sums-kept : graph.sums.items ≡ sums_of (meanings T.places T.value_of terms) n graph.bases
   sums-kept = let are = h.claimed.are_sums in
-      sums_only Terms n graph.bases graph.sums.items (record { places = are.places; exact = are.exact })
+      sums_only Terms n graph.bases graph.sums.items
+      (record { places = are.places; exact = are.exact })
 
   -- its squares
-  pub squares-near : squares_at (meanings T.places T.value_of terms) n graph.bases ≤ℤ pos (11 * 10 ^ 28)
+  pub squares-near : squares_at (meanings T.places T.value_of terms) n graph.bases ≤ℤ pos
+      (11 * 10 ^ 28)
   squares-near = let r = h.room in let l = h.low in omega (arith, ints, r, l)
 
   -- each number of it
-  pub sums-near : All (IsAtMost (10 ^ 15)) (sums_of (meanings T.places T.value_of terms) n graph.bases)
+  pub sums-near : All (IsAtMost (10 ^ 15))
+      (sums_of (meanings T.places T.value_of terms) n graph.bases)
   sums-near = let near = squares-near in roots-small Sums (omega (arith, ints, near))
 
   pub sum-near : (e : ℕ) → e < n
@@ -71,13 +75,15 @@ module _ {X N : Type 0} {T : Ghosts X N} {terms : List X} {n : ℕ} {graph : Gra
 
   -- after some walks at a slope
   module _ (fit : AreTerms n (meanings T.places T.value_of terms)) (t : ℤ) (k : ℕ) (after : Graph N)
-      (chain : IsWalkChain (meanings T.places T.value_of terms) (pos 1) (even_shift n t) k graph.bases
+      (chain : IsWalkChain (meanings T.places T.value_of terms) (pos 1) (even_shift n t) k
+      graph.bases
       after.bases) where
     pub levelling_after : IsClaimed T terms n (pos 1) after
         → AreSpread (meanings T.places T.value_of terms) n (even_shift n t) graph.bases after.bases
         → IsLevelling T terms n after
     levelling_after claimed spread =
-        let lowered = chain_lowers Terms n t fit k graph.bases after.bases h.claimed.are_bases chain in
+        let lowered = chain_lowers Terms n t fit k graph.bases after.bases h.claimed.are_bases
+        chain in
         let up = lowered.rises in
         let down = lowered.falls in
         let r = h.room in
@@ -96,14 +102,16 @@ module _ {X N : Type 0} {T : Ghosts X N} {terms : List X} {n : ℕ} {graph : Gra
     pub squares_fall : 0 < k → squares_at (meanings T.places T.value_of terms) n after.bases
         <ℤ squares_at (meanings T.places T.value_of terms) n graph.bases
     squares_fall some =
-        let lowered = chain_lowers Terms n t fit k graph.bases after.bases h.claimed.are_bases chain in
+        let lowered = chain_lowers Terms n t fit k graph.bases after.bases h.claimed.are_bases
+        chain in
         let up = lowered.rises in
         let down = lowered.falls in
         omega (arith, ints, up, down, some)
 
 -- at the first bases, where the sizes of the terms add to little
 module _ {X N : Type 0} (T : Ghosts X N) (start : X → List ℤ) (low : (x : X) → pos 0 ≤ℤ T.size_of x)
-    (starts_small : (x : X) → All (IsIn (pos 2 *ℤ T.size_of x)) (start x)) (terms : List X) (n : ℕ) where
+    (starts_small : (x : X) → All (IsIn (pos 2 *ℤ T.size_of x)) (start x)) (terms : List X)
+    (n : ℕ) where
   -- a term is no larger than all together
   all-low : (xs : List X) → pos 0 ≤ℤ total_of (map T.size_of xs)
   all-low [] = omega (arith, ints)
@@ -116,7 +124,10 @@ module _ {X N : Type 0} (T : Ghosts X N) (start : X → List ℤ) (low : (x : X)
       All-cons (λ x. All (IsUpTo (pos (2 * 10 ^ 13))) x) (start x) (map start xs) (λ e k l.
       let s = starts_small x e k l in
       let r = all-low xs in
-      record { low = omega (arith, ints, s.0, small, r); high = omega (arith, ints, s.1, small, r) })
+      record {
+        low = omega (arith, ints, s.0, small, r);
+        high = omega (arith, ints, s.1, small, r);
+      })
       (starts-within xs (let l = low x in omega (arith, ints, small, l)))
 
   pub levelling_begun : (graph : Graph N) → IsClaimed T terms n (pos 1) graph
@@ -138,9 +149,16 @@ module _ {X N : Type 0} (T : Ghosts X N) (start : X → List ℤ) (low : (x : X)
     near : squares_at (meanings T.places T.value_of terms) n graph.bases ≤ℤ pos (4 * 10 ^ 26 * n)
     near =
         let z = sums_of (meanings T.places T.value_of terms) n graph.bases in
-        rw (length-first_values n f) at (squares-small z (All-from_get_or (IsAtMost (2 * 10 ^ 13)) z (pos 0) (λ e l.
+        rw (length-first_values n f) at
+        (squares-small z (All-from_get_or (IsAtMost (2 * 10 ^ 13)) z (pos 0) (λ e l.
         let le : e < n = rw (length-first_values n f) at l in
-        let a = first_sum-in T.places T.value_of T.size_of start low starts_small n terms claimed.bounded.placed e in
-        let v : get_or z e (pos 0) ≡ base_sum_at (meanings T.places T.value_of terms) (map start terms) e
-        = get_or-first_values n f e le ∙ ap (λ b. base_sum_at (meanings T.places T.value_of terms) b e) is in
-        record { low = omega (arith, ints, v, a.0, small); high = omega (arith, ints, v, a.1, small) })))
+        let a = first_sum-in T.places T.value_of T.size_of start low starts_small n terms
+        claimed.bounded.placed e in
+        let v : get_or z e (pos 0) ≡ base_sum_at (meanings T.places T.value_of terms)
+        (map start terms) e
+        = get_or-first_values n f e le
+        ∙ ap (λ b. base_sum_at (meanings T.places T.value_of terms) b e) is in
+        record {
+          low = omega (arith, ints, v, a.0, small);
+          high = omega (arith, ints, v, a.1, small);
+        })))

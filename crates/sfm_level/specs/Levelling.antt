@@ -10,8 +10,8 @@ use Rattle.sfm_exchange.specs.Graph.{IsClaimed}
 use Rattle.sfm_walk.specs.Spread.{IsUpTo}
 use Rattle.sfm_level.specs.Sums.{squares_at}
 
--- the graph is one at bases of the terms, whose entries are within a bound of which twice is no more than what the squares of
--- their sum are below 1.1 * 10^29
+-- the graph is one at bases of the terms, whose entries are within a bound of which twice is no
+-- more than what the squares of their sum are below 1.1 * 10^29
 pub record IsLevelling {X N : Type 0} (T : Ghosts X N) (terms : List X) (n : ℕ) (graph : Graph N)
     : Type 0 where
   pub claimed : IsClaimed T terms n (pos 1) graph

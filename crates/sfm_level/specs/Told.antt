@@ -9,7 +9,8 @@ use Rattle.sfm_cert.specs.Answer.{Form, row_lines, spaced}
 use Rattle.sfm_cert.specs.Form.{AreFormedRows}
 use Rattle.sfm_level.specs.declared.told.Level.{Level}
 
--- what a level text says: the least sum of squares, the base of the sum that has it, and the bases of the terms
+-- what a level text says: the least sum of squares, the base of the sum that has it, and the bases
+-- of the terms
 pub record LevelAnswer : Type 0 where
   pub squares : ℤ
   pub vector : List ℤ
@@ -25,7 +26,8 @@ level_lines form a = codes "level 1" ∷ (codes "squares " ++ signed_decimal a.s
     ∷ (codes "vector" ++ spaced signed_decimal a.vector)
     ∷ (row_lines (codes "base ") form.lines 1 a.bases ++ codes "end" ∷ [])
 
--- what it says is true of the terms: bases of theirs add up to the vector, which is a most level base of the sum
+-- what it says is true of the terms: bases of theirs add up to the vector, which is a most level
+-- base of the sum
 pub record IsTrueLevel (terms : List Meaning) (n : ℕ) (a : LevelAnswer) : Type 0 where
   pub bases : AreBases (pos 1) terms a.bases
   pub sum : IsSumOf terms n a.bases a.vector

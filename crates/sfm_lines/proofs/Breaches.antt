@@ -22,7 +22,8 @@ union-one (true ∷ s) (suc b) = ap (λ t. true ∷ t) (union-one s b)
 union-one (false ∷ s) (suc b) = ap (λ t. false ∷ t) (union-one s b)
 
 -- a set with a and with b have together both
-union-two : (s : List Bool) (a b : ℕ) → a < b → union (set s a true) (set s b true) ≡ set (set s a true) b true
+union-two : (s : List Bool) (a b : ℕ) → a < b
+    → union (set s a true) (set s b true) ≡ set (set s a true) b true
 union-two [] a b lt = refl
 union-two (x ∷ s) zero zero lt = absurd (omega arith)
 union-two (x ∷ s) zero (suc b) lt = ap (λ t. true ∷ t) (union-one s b)
@@ -43,27 +44,38 @@ both-one (true ∷ s) (suc b) out = ap (λ t. true ∷ t) (both-one s b out)
 both-one (false ∷ s) (suc b) out = ap (λ t. false ∷ t) (both-one s b out)
 
 -- and in common the set
-both-two : (s : List Bool) (a b : ℕ) → a < b → get_or s a false ≡ false → get_or s b false ≡ false → intersection (set s a true) (set s b true) ≡ s
+both-two : (s : List Bool) (a b : ℕ) → a < b → get_or s a false ≡ false → get_or s b false ≡ false
+    → intersection (set s a true) (set s b true) ≡ s
 both-two [] a b lt out out' = refl
 both-two (x ∷ s) zero zero lt out out' = absurd (omega arith)
 both-two (true ∷ s) zero (suc b) lt out out' = absurd (true≢false out)
 both-two (false ∷ s) zero (suc b) lt out out' = ap (λ t. false ∷ t) (both-one s b out')
 both-two (x ∷ s) (suc a) zero lt out out' = absurd (omega arith)
-both-two (true ∷ s) (suc a) (suc b) lt out out' = ap (λ t. true ∷ t) (both-two s a b (omega arith) out out')
-both-two (false ∷ s) (suc a) (suc b) lt out out' = ap (λ t. false ∷ t) (both-two s a b (omega arith) out out')
+both-two (true ∷ s) (suc a) (suc b) lt out out' =
+    ap (λ t. true ∷ t) (both-two s a b (omega arith) out out')
+both-two (false ∷ s) (suc a) (suc b) lt out out' =
+    ap (λ t. false ∷ t) (both-two s a b (omega arith) out out')
 
 -- the first value of a submodular function is 0
-pub first-zero : (k : ℕ) (values : List ℤ) → IsSubmodular k (table_value values) → get_or values 0 (pos 0) ≡ pos 0
+pub first-zero : (k : ℕ) (values : List ℤ) → IsSubmodular k (table_value values)
+    → get_or values 0 (pos 0) ≡ pos 0
 first-zero k values h =
     let some = h.at_empty in
     let zero_there : get_or values (binary (empty_set k)) (pos 0) ≡ pos 0 = cc in
     rw (binary-none k) at zero_there
 
 -- and its values have no breach
-pub no-breach : (k : ℕ) (values : List ℤ) (n a b : ℕ) → BreaksLaw values k n a b → IsSubmodular k (table_value values) → ⊥
+pub no-breach : (k : ℕ) (values : List ℤ) (n a b : ℕ) → BreaksLaw values k n a b
+    → IsSubmodular k (table_value values) → ⊥
 no-breach k values n a b breach h =
     let s = members k n in
     let len = length-members k n in
-    let less = h.submodular (set s a true) (set s b true) (listed_at values (set s a true)) (listed_at values (set s b true)) (listed_at values (union (set s a true) (set s b true))) (listed_at values (intersection (set s a true) (set s b true))) (length-set s a true ∙ len) (length-set s b true ∙ len) refl refl refl refl in
-    let fine = rw (union-two s a b breach.ordered, both-two s a b breach.ordered breach.first_out breach.second_out) at less in
+    let less = h.submodular (set s a true) (set s b true) (listed_at values (set s a true))
+    (listed_at values (set s b true)) (listed_at values (union (set s a true) (set s b true)))
+    (listed_at values (intersection (set s a true) (set s b true))) (length-set s a true ∙ len)
+    (length-set s b true ∙ len) refl refl refl refl in
+    let fine = rw (
+      union-two s a b breach.ordered,
+      both-two s a b breach.ordered breach.first_out breach.second_out,
+    ) at less in
     omega (arith, ints, fine, breach.more)

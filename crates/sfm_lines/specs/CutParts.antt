@@ -1,5 +1,6 @@
--- How the code cuts the tokens of a line, told in the order of its steps: at the first byte or the first colon, between semicolons, and
--- one element with labels after the other; and what it then makes of the pieces.
+-- How the code cuts the tokens of a line, told in the order of its steps: at the first byte or the
+-- first colon, between semicolons, and one element with labels after the other; and what it then
+-- makes of the pieces.
 use Rattle.std.specs.Prelude.{◌≡◌, ◌≢◌, ℕ, ◌-◌, ◌<◌, ◌≤◌, ◌^◌, take, slice_index, slice_get, Some, Bool, List, [], ◌∷◌, ◌++◌, length, map, codes, bytes_eq}
 use Rattle.std.specs.List.{All, slice_split, AllZip, position_or_len}
 use Rattle.sfm_spec.specs.Kinds.{Group}
@@ -33,7 +34,8 @@ AreCounts RankWord numbers elements = 1 ≤ elements
 
 -- so many numbers and then elements, in the counts of the word
 abbrev pub IsSplitLine : TermWord → ℕ → List (List ℕ) → LineParts → Type 0
-IsSplitLine word count tokens parts = (count ≤ length tokens) × AreCounts word count (length tokens - count) × IsSplitAt count tokens parts
+IsSplitLine word count tokens parts = (count ≤ length tokens)
+    × AreCounts word count (length tokens - count) × IsSplitAt count tokens parts
 
 -- a semicolon alone
 abbrev pub is_semicolon : List ℕ → Bool
@@ -50,7 +52,8 @@ pub record IsGroupCut (tokens : List (List ℕ)) (group : List ℕ × List (List
   pub unmarked : HaveNoSeparator tokens
 
 -- at least one element, and groups
-pub record AreGroupsCut (pieces : List (List (List ℕ))) (elements : List (List ℕ)) (groups : List (List ℕ × List (List ℕ))) : Type 0 where
+pub record AreGroupsCut (pieces : List (List (List ℕ))) (elements : List (List ℕ))
+    (groups : List (List ℕ × List (List ℕ))) : Type 0 where
   pub rest : List (List (List ℕ))
   pub pieces_are : pieces ≡ elements ∷ rest
   pub some : 1 ≤ length elements
@@ -59,24 +62,51 @@ pub record AreGroupsCut (pieces : List (List (List ℕ))) (elements : List (List
 
 -- the number and the caps, the elements, and the names of the groups
 abbrev pub laminar_parts_of : List ℕ → List (List ℕ) → List (List ℕ × List (List ℕ)) → LineParts
-laminar_parts_of number elements groups = record { numbers = number ∷ map (λ group. group.0) groups; elements = elements; rank = LaminarRank; groups = map (λ group. group.1) groups; labels = [] }
+laminar_parts_of number elements groups =
+    record {
+      numbers = number ∷ map (λ group. group.0) groups;
+      elements = elements;
+      rank = LaminarRank;
+      groups = map (λ group. group.1) groups;
+      labels = [];
+    }
 
 -- at least one such token
-pub record AreLabelled (rank : RankKind) (tokens : List (List ℕ)) (entries : List (List ℕ × List (List ℕ))) : Type 0 where
+pub record AreLabelled (rank : RankKind) (tokens : List (List ℕ))
+    (entries : List (List ℕ × List (List ℕ))) : Type 0 where
   pub some : 1 ≤ length tokens
   pub each : AllZip (IsLabelToken rank) tokens entries
 
 -- the number, the elements, and their labels
 abbrev pub labelled_parts_of : RankKind → List ℕ → List (List ℕ × List (List ℕ)) → LineParts
-labelled_parts_of rank number entries = record { numbers = number ∷ []; elements = map (λ entry. entry.0) entries; rank = rank; groups = []; labels = map (λ entry. entry.1) entries }
+labelled_parts_of rank number entries =
+    record {
+      numbers = number ∷ [];
+      elements = map (λ entry. entry.0) entries;
+      rank = rank;
+      groups = [];
+      labels = map (λ entry. entry.1) entries;
+    }
 
 -- the caps and the names of such groups, behind the numbers and the groups of a line
 abbrev pub with_groups : LineParts → List (List ℕ × List (List ℕ)) → LineParts
-with_groups parts groups = record { numbers = parts.numbers ++ map (λ group. group.0) groups; elements = parts.elements; rank = parts.rank; groups = parts.groups ++ map (λ group. group.1) groups; labels = parts.labels }
+with_groups parts groups = record {
+  numbers = parts.numbers ++ map (λ group. group.0) groups;
+  elements = parts.elements;
+  rank = parts.rank;
+  groups = parts.groups ++ map (λ group. group.1) groups;
+  labels = parts.labels;
+}
 
 -- further elements with labels, behind those of a line
 abbrev pub with_labelled : LineParts → List (List ℕ × List (List ℕ)) → LineParts
-with_labelled parts entries = record { numbers = parts.numbers; elements = parts.elements ++ map (λ entry. entry.0) entries; rank = parts.rank; groups = parts.groups; labels = parts.labels ++ map (λ entry. entry.1) entries }
+with_labelled parts entries = record {
+  numbers = parts.numbers;
+  elements = parts.elements ++ map (λ entry. entry.0) entries;
+  rank = parts.rank;
+  groups = parts.groups;
+  labels = parts.labels ++ map (λ entry. entry.1) entries;
+}
 
 -- the place at which a text stands among others
 abbrev pub place_among : List (List ℕ) → List ℕ → ℕ

@@ -1,4 +1,5 @@
--- The reasons of a term line without weights of elements, as the code that reads its parts tells them.
+-- The reasons of a term line without weights of elements, as the code that reads its parts tells
+-- them.
 use Rattle.std.specs.Prelude.{ℕ, ◌<◌, List, Any}
 use Rattle.sfm_lines.specs.declared.reason.Reason.{Reason}
 use Rattle.sfm_lines.specs.declared.reason.Reason.TheVariants.{Bytes}
@@ -15,7 +16,8 @@ HasPlainly s line reason = HasPlain s (tokens_of line) reason
 -- and none of a lower number
 pub record FirstPlain (s : State) (line : List ℕ) (reason : Reason) : Type 0 where
   pub holds : HasPlainly s line reason
-  pub first : (earlier : Reason) → reason_order earlier < reason_order reason → HasPlainly s line earlier → ⊥
+  pub first : (earlier : Reason) → reason_order earlier < reason_order reason
+      → HasPlainly s line earlier → ⊥
 
 -- a refusal names the first such reason; want of memory says nothing
 abbrev pub IsPlainRefusal : State → List ℕ → LineEnd → Type 0

@@ -1,4 +1,5 @@
--- Numbers that a weighted rank is scaled with, amounts that are split, and what is asked of a split beside another one.
+-- Numbers that a weighted rank is scaled with, amounts that are split, and what is asked of a split
+-- beside another one.
 use Rattle.std.specs.Prelude.{◌≡◌, ◌≢◌, ℕ, ◌<◌, ◌≤◌, ◌^◌, Bool, List, length, slice_set, slice_index_or, ℤ, pos, ◌+ℤ◌, ◌≤ℤ◌}
 use Rattle.std.specs.List.{All}
 use Rattle.sfm_spec.specs.Bounds.{IsEntry, IsFactor, IsGiven}
@@ -20,7 +21,8 @@ pub record CanWeigh (w : ℤ) (set : List Bool) : Type 0 where
   pub weight : IsWeight w
   pub few : length set ≤ 256
 
--- a few entries that may be a base of a factor times a weighted rank, and a set that tells what they add up to
+-- a few entries that may be a base of a factor times a weighted rank, and a set that tells what
+-- they add up to
 pub record CanAdd (q w : ℤ) (x : List ℤ) (set : List Bool) : Type 0 where
   pub factor : IsFactor q
   pub weigh : CanWeigh w set
@@ -59,7 +61,8 @@ pub record IsBeside (other d : Demands) : Type 0 where
 abbrev pub rest_of : Demands → List ℤ → ℕ → List ℤ → Demands
 rest_of d x v held = record { demands = slice_set x v (pos 0); lists = d.lists; capacities = held }
 
--- a split of the entries with nothing at v, over the lists of other demands, where as many slots hold what is told
+-- a split of the entries with nothing at v, over the lists of other demands, where as many slots
+-- hold what is told
 pub record CanHold (d : Demands) (x : List ℤ) (v : ℕ) (held : List ℤ) : Type 0 where
   pub sized : length x ≡ length d.demands
   pub slots : length held ≡ length d.capacities

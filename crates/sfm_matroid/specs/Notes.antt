@@ -13,7 +13,11 @@ slot_demands entries m c x = record { demands = x; lists = entries; capacities =
 
 -- m times as much for each demand, over slots that hold m times as much
 abbrev pub demands_times : ℤ → Demands → Demands
-demands_times m d = record { demands = map (λ a. m *ℤ a) d.demands; lists = d.lists; capacities = map (λ a. m *ℤ a) d.capacities }
+demands_times m d = record {
+  demands = map (λ a. m *ℤ a) d.demands;
+  lists = d.lists;
+  capacities = map (λ a. m *ℤ a) d.capacities;
+}
 
 -- demands whose numbers are within the bounds m times too
 pub record CanMultiply (m : ℤ) (d : Demands) : Type 0 where
@@ -21,7 +25,8 @@ pub record CanMultiply (m : ℤ) (d : Demands) : Type 0 where
   pub amounts : All IsAmount (map (λ a. m *ℤ a) d.demands)
   pub bounded : All IsCapacity (map (λ a. m *ℤ a) d.capacities)
 
--- amounts for the elements of a few entries that list some of m slots, and a number c that each slot holds
+-- amounts for the elements of a few entries that list some of m slots, and a number c that each
+-- slot holds
 pub record AreSlotAmounts (entries : List (List ℕ)) (m : ℕ) (c : ℤ) (x : List ℤ) : Type 0 where
   pub few : length entries ≤ 256
   pub sized : length x ≡ length entries
@@ -34,7 +39,8 @@ pub record AreSlotAmounts (entries : List (List ℕ)) (m : ℕ) (c : ℤ) (x : L
 -- nothing is asked for, over the slots of entries, where each of the slots holds 1
 pub record IsFrame (entries : List (List ℕ)) (d : Demands) : Type 0 where
   pub below : All (All (λ v. v < length d.capacities)) entries
-  pub none : d ≡ slot_demands entries (length d.capacities) (pos 1) (replicate (length entries) (pos 0))
+  pub none : d ≡ slot_demands entries (length d.capacities) (pos 1)
+      (replicate (length entries) (pos 0))
 
 -- the split of demands, or none where they cannot be met
 abbrev pub IsSplitOrNone : Demands → Option Kept → Type 0
@@ -45,8 +51,10 @@ IsSplitOrNone d (Some kept) = (kept.demand ≡ d) × CanBeMet d.demands d.lists 
 abbrev pub AreBeside : SplitPair → Type 0
 AreBeside pair = (k : Kept) → pair.spare ≡ Some k → IsBeside pair.kept.demand k.demand
 
--- the split of the entries where each slot holds c, with what the slots hold, and perhaps a spare one
-pub record IsSlotSplit (entries : List (List ℕ)) (c : ℤ) (x : List ℤ) (note : SlotSplit) : Type 0 where
+-- the split of the entries where each slot holds c, with what the slots hold, and perhaps a spare
+-- one
+pub record IsSlotSplit (entries : List (List ℕ)) (c : ℤ) (x : List ℤ) (note : SlotSplit) : Type
+    0 where
   pub m : ℕ
   pub below : All (All (λ v. v < m)) entries
   pub holds : note.capacities.items ≡ replicate m c

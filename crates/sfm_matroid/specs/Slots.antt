@@ -1,6 +1,7 @@
--- Elements taken one after another while their slots suffice: while no part of them has fewer slots than members. How many are
--- taken of a set is its rank. Its weighted rank, and the base that the taken elements give.
--- Textbook: Schrijver, Combinatorial Optimization, sections 22 (Hall's theorem), 39 and 40.
+-- Elements taken one after another while their slots suffice: while no part of them has fewer slots
+-- than members. How many are taken of a set is its rank. Its weighted rank, and the base that the
+-- taken elements give. Textbook: Schrijver, Combinatorial Optimization, sections 22 (Hall's
+-- theorem), 39 and 40.
 use Rattle.std.proofs.Common.{◌≡◌, ℕ, zero, suc, ◌+◌, Bool, true, false, not, ◌&&◌, ◌||◌, List, [], ◌∷◌, length, get_or, set, nat_eq, ℤ, pos, ◌*ℤ◌, ◌≤ℤ◌, nat_lt, if◌then◌else◌}
 use Rattle.sfm_spec.specs.Sets.{empty_set, size, sum_over, whole_set, intersection}
 use Rattle.sfm_spec.specs.Terms.{SetFunction}
@@ -23,7 +24,8 @@ slots_count entries m s = count_below m (listed entries s)
 
 -- no members get more than c for each of m slots that are listed for them
 abbrev pub IsWithinSlots : List (List ℕ) → ℕ → ℤ → List ℤ → Type 0
-IsWithinSlots entries m c x = (s : List Bool) → length s ≡ length entries → sum_over s x ≤ℤ (c *ℤ pos (slots_count entries m s))
+IsWithinSlots entries m c x = (s : List Bool) → length s ≡ length entries
+    → sum_over s x ≤ℤ (c *ℤ pos (slots_count entries m s))
 
 -- some set of k places passes
 abbrev pub some_set : ℕ → (List Bool → Bool) → Bool
@@ -32,7 +34,8 @@ some_set (suc k) p = some_set k (λ s. p (true ∷ s)) || some_set k (λ s. p (f
 
 -- the members of t that are in r have fewer slots than they are
 abbrev pub lack_slots : List (List ℕ) → ℕ → List Bool → List Bool → Bool
-lack_slots entries m t r = nat_lt (slots_count entries m (intersection r t)) (size (intersection r t))
+lack_slots entries m t r = nat_lt (slots_count entries m (intersection r t))
+    (size (intersection r t))
 
 -- no part of t has fewer slots than members
 abbrev pub have_slots : List (List ℕ) → ℕ → List Bool → Bool
@@ -54,7 +57,8 @@ suits entries s t n = get_or s n false && have_slots entries (above_slots entrie
 -- the places of s below n that are taken
 abbrev pub suited : List (List ℕ) → List Bool → ℕ → List Bool
 suited entries s zero = empty_set (length entries)
-suited entries s (suc n) = if suits entries s (suited entries s n) n then set (suited entries s n) n true else suited entries s n
+suited entries s (suc n) = if suits entries s (suited entries s n) n then set (suited entries s n) n
+    true else suited entries s n
 
 -- how many places are taken of a set
 abbrev pub transversal_rank : List (List ℕ) → List Bool → ℕ

@@ -1,4 +1,5 @@
--- Bases of all sides taken apart: the first are bases of the left sum, and the others, negated, of the right one.
+-- Bases of all sides taken apart: the first are bases of the left sum, and the others, negated, of
+-- the right one.
 use Rattle.std.proofs.Common.{◌≡◌, ℕ, List, [], ◌∷◌, ◌++◌, length, map, take, drop, ℤ, pos, ◌≤ℤ◌, refl, sym, ap, ◌∙◌, arith}
 use Rattle.std.proofs.lemmas.Int.{ints}
 use Rattle.std.proofs.lemmas.List.{take-append-drop}
@@ -17,7 +18,8 @@ bases_apart q (k ∷ ks) js (x ∷ z) h =
     ((h.0, h.1, r.0), r.1)
 
 -- those of terms turned round are negated ones of the terms
-bases-turned_back : (q : ℤ) → pos 1 ≤ℤ q → (n : ℕ) (terms : List Meaning) (rows : List (List ℤ)) → AreTerms n terms
+bases-turned_back : (q : ℤ) → pos 1 ≤ℤ q → (n : ℕ) (terms : List Meaning) (rows : List (List ℤ))
+    → AreTerms n terms
     → AreBases q (map flipped_term terms) rows → AreBases q terms (map negated rows)
 bases-turned_back q low n [] [] h b = tt
 bases-turned_back q low n [] (x ∷ rows) h b = absurd b
@@ -33,16 +35,20 @@ bases-turned_back q low n (term ∷ terms) (x ∷ rows) h b =
 negated_all-twice : (rows : List (List ℤ)) → map negated (map negated rows) ≡ rows
 negated_all-twice [] = refl
 negated_all-twice (x ∷ rows) =
-    ap (λ y. y ∷ map negated (map negated rows)) (negated-twice x) ∙ ap (λ r. x ∷ r) (negated_all-twice rows)
+    ap (λ y. y ∷ map negated (map negated rows)) (negated-twice x)
+    ∙ ap (λ r. x ∷ r) (negated_all-twice rows)
 
-module _ (q : ℤ) (low : pos 1 ≤ℤ q) (n : ℕ) (left right : List Meaning) (fit : AreTerms n right) (z : List (List ℤ))
+module _ (q : ℤ) (low : pos 1 ≤ℤ q) (n : ℕ) (left right : List Meaning) (fit : AreTerms n right)
+    (z : List (List ℤ))
     (bases : AreBases q (left ++ map flipped_term right) z) where
   -- the bases of both sums
-  pub sides_apart : AreBases q left (take (length left) z) × AreBases q right (map negated (drop (length left) z))
+  pub sides_apart : AreBases q left (take (length left) z)
+      × AreBases q right (map negated (drop (length left) z))
   sides_apart =
       let r = bases_apart q left (map flipped_term right) z bases in
       (r.0, bases-turned_back q low n right (drop (length left) z) fit r.1)
 
 -- and joined again they are those of all sides
-pub apart_joined : (k : ℕ) (z : List (List ℤ)) → (take k z ++ map negated (map negated (drop k z))) ≡ z
+pub apart_joined : (k : ℕ) (z : List (List ℤ))
+    → (take k z ++ map negated (map negated (drop k z))) ≡ z
 apart_joined k z = ap (λ r. take k z ++ r) (negated_all-twice (drop k z)) ∙ take-append-drop k z

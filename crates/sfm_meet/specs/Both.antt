@@ -1,4 +1,5 @@
--- The terms of two sums as those of one: the left ones as they are, and the right ones turned round.
+-- The terms of two sums as those of one: the left ones as they are, and the right ones turned
+-- round.
 use Rattle.std.specs.Prelude.{◌++◌, List, map}
 use Rattle.sfm_spec.specs.Families.{Meaning}
 use Rattle.sfm_kind.specs.declared.kind.Kind.{Kind}

@@ -8,7 +8,13 @@ use Rattle.sfm_meet.specs.Met.{MetAnswer}
 
 -- what it says
 abbrev pub met_of : Met → MetAnswer
-met_of m = record { value = m.value; members = m.members; common = m.common; left = m.bases.left; right = m.bases.right }
+met_of m = record {
+  value = m.value;
+  members = m.members;
+  common = m.common;
+  left = m.bases.left;
+  right = m.bases.right;
+}
 
 -- what the terms of a side mean
 abbrev pub side_terms : List Kind → List Meaning

@@ -1,4 +1,5 @@
--- A verdict that tells what was found of a text is `valid` exactly where the text is right, and else names its first fault.
+-- A verdict that tells what was found of a text is `valid` exactly where the text is right, and
+-- else names its first fault.
 use Rattle.std.proofs.Common.{◌≡◌, ℕ, ◌≤◌, Bool, List, [], ◌∷◌, ◌++◌, length, ℤ, pos, inl, inr, sym, ◌∙◌, arith, subst}
 use Rattle.std.proofs.lemmas.Int.{ints}
 use Rattle.sfm_spec.specs.Families.{AreBases, Meaning}
@@ -21,7 +22,8 @@ use Rattle.sfm_met.proofs.OneMet.{one_met}
 -- ---- rows of two sums, one behind the other
 
 -- bases of both are bases of all
-pub bases-append : (q : ℤ) (ts us : List Meaning) (xs ys : List (List ℤ)) → AreBases q ts xs → AreBases q us ys → AreBases q (ts ++ us) (xs ++ ys)
+pub bases-append : (q : ℤ) (ts us : List Meaning) (xs ys : List (List ℤ)) → AreBases q ts xs
+    → AreBases q us ys → AreBases q (ts ++ us) (xs ++ ys)
 bases-append q [] us [] ys h k = k
 bases-append q [] us (x ∷ xs) ys h k = absurd h
 bases-append q (t ∷ ts) us [] ys h k = absurd h
@@ -29,7 +31,8 @@ bases-append q (t ∷ ts) us (x ∷ xs) ys h k = (h.0, h.1, bases-append q ts us
 
 -- ---- at most one least split
 
-same_split : (ts us : List Meaning) (n : ℕ) (v w : ℤ) (s t : List Bool) → IsLeastSplit ts us n v s → IsLeastSplit ts us n w t → v ≡ w
+same_split : (ts us : List Meaning) (n : ℕ) (v w : ℤ) (s t : List Bool) → IsLeastSplit ts us n v s
+    → IsLeastSplit ts us n w t → v ≡ w
 same_split ts us n v w s t h k =
     let a = h.least t k.places in
     let b = k.least s h.places in
@@ -37,30 +40,45 @@ same_split ts us n v w s t h k =
     let d = k.value in
     omega (arith, ints, a, b, c, d)
 
-same_set : (ts us : List Meaning) (n : ℕ) (v : ℤ) (s t : List Bool) → IsLeastSplit ts us n v s → IsLeastSplit ts us n v t → s ≡ t
-same_set ts us n v s t h k = same_sets s t (h.places ∙ sym k.places) (λ e l. h.within t k.places k.value e) (λ e l. k.within s h.places h.value e)
+same_set : (ts us : List Meaning) (n : ℕ) (v : ℤ) (s t : List Bool) → IsLeastSplit ts us n v s
+    → IsLeastSplit ts us n v t → s ≡ t
+same_set ts us n v s t h k = same_sets s t (h.places ∙ sym k.places)
+    (λ e l. h.within t k.places k.value e) (λ e l. k.within s h.places h.value e)
 
-module _ (left right : Question) (text : List ℕ) (a : MetAnswer) (fine : AreElementNames left.instance.names) (is_text : IsMetText (form_of left.instance) (form_of right.instance) text a) (short : length text ≤ answer_limit) where
+module _ (left right : Question) (text : List ℕ) (a : MetAnswer)
+    (fine : AreElementNames left.instance.names)
+    (is_text : IsMetText (form_of left.instance) (form_of right.instance) text a)
+    (short : length text ≤ answer_limit) where
   -- a right text says what was read
   same_answer : (r : IsRightMet left right text) → r.answer ≡ a
-  same_answer r = one_met (form_of left.instance) (form_of right.instance) text r.answer a fine r.is_text is_text
+  same_answer r = one_met (form_of left.instance) (form_of right.instance) text r.answer a fine
+      r.is_text is_text
 
-  proved_of : IsRightMet left right text → IsProvedMet left.meant right.meant (length left.instance.names) a
-  proved_of r = subst (IsProvedMet left.meant right.meant (length left.instance.names)) (same_answer r) r.proved
+  proved_of : IsRightMet left right text
+      → IsProvedMet left.meant right.meant (length left.instance.names) a
+  proved_of r = subst (IsProvedMet left.meant right.meant (length left.instance.names))
+      (same_answer r) r.proved
 
-  split_of : IsRightMet left right text → IsLeastSplit left.meant right.meant (length left.instance.names) a.value a.members
-  split_of r = subst (λ (x : MetAnswer). IsLeastSplit left.meant right.meant (length left.instance.names) x.value x.members) (same_answer r) r.split
+  split_of : IsRightMet left right text
+      → IsLeastSplit left.meant right.meant (length left.instance.names) a.value a.members
+  split_of r = subst (λ (x : MetAnswer). IsLeastSplit left.meant right.meant
+      (length left.instance.names) x.value x.members) (same_answer r) r.split
 
   no_base : (line : ℕ) → IsFirstNoMetBase left right a line → IsRightMet left right text → ⊥
   no_base line (at, is_row, line_is, not_base, before) r =
       let p = proved_of r in
-      not_base (bases-at (pos 1) (left.meant ++ right.meant) (a.left ++ a.right) at (bases-append (pos 1) left.meant right.meant a.left a.right p.left_bases p.right_bases) is_row).1
+      not_base (bases-at (pos 1) (left.meant ++ right.meant) (a.left ++ a.right) at
+      (bases-append (pos 1) left.meant right.meant a.left a.right p.left_bases p.right_bases)
+      is_row).1
 
   no_line : (line : ℕ) → IsFirstWrongMet left right a line → IsRightMet left right text → ⊥
-  no_line line (value, members, split, inl (line_is, wrong)) r = wrong (same_split _ _ _ _ _ _ _ (split_of r) split)
+  no_line line (value, members, split, inl (line_is, wrong)) r =
+      wrong (same_split _ _ _ _ _ _ _ (split_of r) split)
   no_line line (value, members, split, inr (line_is, same, wrong)) r =
-      wrong (same_set left.meant right.meant (length left.instance.names) a.value a.members members (split_of r)
-      (subst (λ (v : ℤ). IsLeastSplit left.meant right.meant (length left.instance.names) v members) (sym same) split))
+      wrong (same_set left.meant right.meant (length left.instance.names) a.value a.members members
+      (split_of r)
+      (subst (λ (v : ℤ). IsLeastSplit left.meant right.meant (length left.instance.names) v members)
+      (sym same) split))
 
   pub found_verdict : (v : Verdict) → IsFoundMet left right a v → IsMetVerdict left right text v
   found_verdict Valid f = record { answer = a; is_text = is_text; proved = f.0; split = f.1 }

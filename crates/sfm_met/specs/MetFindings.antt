@@ -16,6 +16,9 @@ IsFoundMet left right a Valid = IsProvedMet left.meant right.meant (length left.
 IsFoundMet left right a (Invalid line Long) = ⊥
 IsFoundMet left right a (Invalid line Grammar) = ⊥
 IsFoundMet left right a (Invalid line Base) = IsFirstNoMetBase left right a line
-IsFoundMet left right a (Invalid line Unproved) = (line ≡ 4) × AreBases (pos 1) left.meant a.left × AreBases (pos 1) right.meant a.right
+IsFoundMet left right a (Invalid line Unproved) = (line ≡ 4) × AreBases (pos 1) left.meant a.left
+    × AreBases (pos 1) right.meant a.right
     × (IsProvedMet left.meant right.meant (length left.instance.names) a → ⊥)
-IsFoundMet left right a (Invalid line Answer) = IsProvedMet left.meant right.meant (length left.instance.names) a × IsFirstWrongMet left right a line
+IsFoundMet left right a (Invalid line Answer) =
+    IsProvedMet left.meant right.meant (length left.instance.names) a
+    × IsFirstWrongMet left right a line

@@ -15,15 +15,20 @@ use Rattle.sfm_met.specs.MetText.{IsFormedMet, met_lines}
 use Rattle.sfm_met.specs.MetSlots.{told_head, told_slots}
 
 -- a line for each term of a sum, whatever is due behind them
-pub record ReadsSide (word : List ℕ) (form : Form) (text : List ℕ) (from to : Cursor) (rows : List (List ℤ)) : Type 0 where
+pub record ReadsSide (word : List ℕ) (form : Form) (text : List ℕ) (from to : Cursor)
+    (rows : List (List ℤ)) : Type 0 where
   pub within : to.at ≤ length text
-  pub reads : (names : List (List ℕ)) (more : List Slot) → ReadsBy (FillsNext names) text from to (row_slots word form.lines 1 form.widths ++ more) more (row_lines word form.lines 1 rows)
+  pub reads : (names : List (List ℕ)) (more : List Slot)
+      → ReadsBy (FillsNext names) text from to (row_slots word form.lines 1 form.widths ++ more)
+      more (row_lines word form.lines 1 rows)
   pub formed : AreFormedRows form.widths rows
 
 -- the first four lines, whatever is due behind them
-pub record ReadsTold (names : List (List ℕ)) (text : List ℕ) (from to : Cursor) (value : ℤ) (members : List Bool) (common : List ℤ) : Type 0 where
+pub record ReadsTold (names : List (List ℕ)) (text : List ℕ) (from to : Cursor) (value : ℤ)
+    (members : List Bool) (common : List ℤ) : Type 0 where
   pub within : to.at ≤ length text
-  pub reads : (more : List Slot) → ReadsBy (FillsNext names) text from to (told_slots names more) more (told_head names value members common)
+  pub reads : (more : List Slot) → ReadsBy (FillsNext names) text from to (told_slots names more)
+      more (told_head names value members common)
   pub small : IsEntry value
   pub places : length members ≡ length names
   pub count : length common ≡ length names
@@ -35,5 +40,6 @@ IsMetText left right text a = IsTextBy (IsFormedMet left right) (met_lines left 
 
 -- a bad line is the first one; want of memory says nothing
 abbrev pub IsBadMetEnd : Form → Form → List ℕ → AnswerEnd → Type 0
-IsBadMetEnd left right text (BadLine line) = IsBadLineOf (IsFormedMet left right) (met_lines left right) text line
+IsBadMetEnd left right text (BadLine line) =
+    IsBadLineOf (IsFormedMet left right) (met_lines left right) text line
 IsBadMetEnd left right text Memory = Unit {0}

@@ -8,18 +8,21 @@ use Rattle.sfm_meet.specs.Met.{MetAnswer}
 
 -- the four lines before the bases
 abbrev pub told_head : List (List ℕ) → ℤ → List Bool → List ℤ → List (List ℕ)
-told_head names v s x = codes "meet 1" ∷ (codes "value " ++ signed_decimal v) ∷ (codes "set" ++ listed names s) ∷ row_line (codes "common") [] x ∷ []
+told_head names v s x = codes "meet 1" ∷ (codes "value " ++ signed_decimal v)
+    ∷ (codes "set" ++ listed names s) ∷ row_line (codes "common") [] x ∷ []
 
 abbrev pub told_lines : List (List ℕ) → MetAnswer → List (List ℕ)
 told_lines names a = told_head names a.value a.members a.common
 
 -- what they are to be, with what is due behind them
 abbrev pub told_slots : List (List ℕ) → List Slot → List Slot
-told_slots names more = exact (codes "meet 1") ∷ value (codes "value ") ∷ set (codes "set") ∷ row (codes "common") [] (length names) ∷ more
+told_slots names more = exact (codes "meet 1") ∷ value (codes "value ") ∷ set (codes "set") ∷ row
+    (codes "common") [] (length names) ∷ more
 
 -- the lines of the bases of the right sum, and the end
 abbrev pub right_slots : Form → List Slot
-right_slots right = row_slots (codes "right ") right.lines 1 right.widths ++ exact (codes "end") ∷ []
+right_slots right = row_slots (codes "right ") right.lines 1 right.widths ++ exact
+    (codes "end") ∷ []
 
 -- the lines of the bases of both sums, and the end
 abbrev pub base_slots : Form → Form → List Slot

@@ -12,29 +12,43 @@ use Rattle.sfm_pair.specs.Passing.{IsOver}
 
 support-cons : (term : Kind) (terms : List Kind)
     → support_of (term ∷ terms) ≡ length (kind_places term) + support_of terms
-support-cons term terms = sum_by-cons (λ (n : ℕ). n) (length (kind_places term)) (map length (map kind_places terms))
+support-cons term terms = sum_by-cons (λ (n : ℕ). n) (length (kind_places term))
+    (map length (map kind_places terms))
 
 -- one term more
 support-suc : (terms : List Kind) (i : ℕ) (term : Kind) → i < length terms
-    → support_of (take (suc i) terms) ≡ support_of (take i terms) + length (kind_places (get_or terms i term))
+    → support_of (take (suc i) terms) ≡ support_of (take i terms) + length
+    (kind_places (get_or terms i term))
 support-suc [] i term l = absurd (omega arith)
 support-suc (t ∷ terms) zero term l = omega (arith, support-cons t [])
 support-suc (t ∷ terms) (suc i) term l =
-    omega (arith, support-cons t (take (suc i) terms), support-cons t (take i terms), support-suc terms i term (omega (arith, l)))
+    omega (
+      arith,
+      support-cons t (take (suc i) terms),
+      support-cons t (take i terms),
+      support-suc terms i term (omega (arith, l)),
+    )
 
 support-next : (terms : List Kind) (i : ℕ) (term : Kind) → i < length terms
-    → support_of (take (i + 1) terms) ≡ support_of (take i terms) + length (kind_places (get_or terms i term))
+    → support_of (take (i + 1) terms) ≡ support_of (take i terms) + length
+    (kind_places (get_or terms i term))
 support-next terms i term l =
     let one : i + 1 ≡ suc i = omega arith in
     rw one (support-suc terms i term l)
 
 -- more of the first terms have no fewer places
-support-more : (terms : List Kind) (i j : ℕ) → i ≤ j → support_of (take i terms) ≤ support_of (take j terms)
+support-more : (terms : List Kind) (i j : ℕ) → i ≤ j
+    → support_of (take i terms) ≤ support_of (take j terms)
 support-more terms zero j le = omega arith
 support-more terms (suc i) zero le = absurd (omega (arith, le))
 support-more [] (suc i) (suc j) le = omega arith
 support-more (t ∷ terms) (suc i) (suc j) le =
-    omega (arith, support-cons t (take i terms), support-cons t (take j terms), support-more terms i j (omega (arith, le)))
+    omega (
+      arith,
+      support-cons t (take i terms),
+      support-cons t (take j terms),
+      support-more terms i j (omega (arith, le)),
+    )
 
 -- all of the terms are the first of them
 support-below : (terms : List Kind) (i : ℕ) → support_of (take i terms) ≤ support_of terms
@@ -44,8 +58,10 @@ support-below (t ∷ terms) (suc i) =
     omega (arith, support-cons t (take i terms), support-cons t terms, support-below terms i)
 
 -- where the first terms are not too much beside others, fewer of them are not
-pub not-over : (places : ℕ) (size : ℤ) (terms : List Kind) (i j : ℕ) → places + support_of (take i terms) ≤ 16384
-    → (size +ℤ pos 2 *ℤ total_size_of (take i terms)) ≤ℤ pos (10 ^ 18) → j < i → IsOver places size terms j → ⊥
+pub not-over : (places : ℕ) (size : ℤ) (terms : List Kind) (i j : ℕ)
+    → places + support_of (take i terms) ≤ 16384
+    → (size +ℤ pos 2 *ℤ total_size_of (take i terms)) ≤ℤ pos (10 ^ 18) → j < i
+    → IsOver places size terms j → ⊥
 not-over places size terms i j few small l (inl over) =
     omega (arith, over, few, support-more terms (j + 1) i (omega (arith, l)))
 not-over places size terms i j few small l (inr over) =
@@ -56,14 +72,16 @@ pub record IsStep (terms : List Kind) (i : ℕ) (term : Kind) : Type 0 where
   pub next : support_of (take (i + 1) terms) ≡ support_of (take i terms) + length (kind_places term)
   pub high : support_of (take (i + 1) terms) ≤ support_of terms
 
-pub step : (terms : List Kind) (i : ℕ) (term : Kind) → term ≡ get_or terms i term → i < length terms → IsStep terms i term
+pub step : (terms : List Kind) (i : ℕ) (term : Kind) → term ≡ get_or terms i term → i < length terms
+    → IsStep terms i term
 step terms i term is l = record {
   next = let n = support-next terms i term l in rw (← is) at n;
   high = support-below terms (i + 1);
 }
 
 -- so many more places are those of one term more
-pub add-places : (terms : List Kind) (i : ℕ) (term : Kind) (places all count : ℕ) → IsStep terms i term
+pub add-places : (terms : List Kind) (i : ℕ) (term : Kind) (places all count : ℕ)
+    → IsStep terms i term
     → count ≡ length (kind_places term) → all ≡ places + support_of (take i terms)
     → all + count ≡ places + support_of (take (i + 1) terms)
 add-places terms i term places all count s is so_far = omega (arith, s.next, is, so_far)

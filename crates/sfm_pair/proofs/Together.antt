@@ -22,24 +22,31 @@ use Rattle.sfm_pair.specs.Passing.{IsOver, PassesTogether}
 use Rattle.sfm_pair.specs.Sides.{lined_of}
 use Rattle.sfm_pair.proofs.Placing.{not-over}
 
-no-need-at : (terms : List Kind) (i : ℕ) (term : Kind) → HasNoNeed terms → slice_get terms i ≡ Some term → IsNeed term → ⊥
+no-need-at : (terms : List Kind) (i : ℕ) (term : Kind) → HasNoNeed terms
+    → slice_get terms i ≡ Some term → IsNeed term → ⊥
 no-need-at terms i term free at need =
-    let there = All-get_or (λ t. IsNeed t → ⊥) terms i term (slice_get_within terms i term at) free in
+    let there = All-get_or (λ t. IsNeed t → ⊥) terms i term (slice_get_within terms i term at)
+    free in
     subst (λ t. IsNeed t → ⊥) (get_or_from_slice_get terms i term term at) there need
 
 -- where no term is a condition, no line is that of the first one
-no-need-line : (side : Lined) (line : ℕ) → HasNoNeed side.asked.instance.terms → IsFirstLine (IsNeedAt side) side.lines line → ⊥
+no-need-line : (side : Lined) (line : ℕ) → HasNoNeed side.asked.instance.terms
+    → IsFirstLine (IsNeedAt side) side.lines line → ⊥
 no-need-line side line free first =
     let (term, at, need) = first.holds in
     no-need-at side.asked.instance.terms first.i term free at need
 
 -- the sizes of all terms, and of the first of them, by what the terms mean
-all-sizes : (side : Numbered) → total_by side.instance.terms (meanings_of side.instance.terms) ≡ total_size_of side.instance.terms
-all-sizes side = total-size side.instance.terms (meanings_of side.instance.terms) (kinds-mean side.instance.terms)
+all-sizes : (side : Numbered) → total_by side.instance.terms (meanings_of side.instance.terms)
+    ≡ total_size_of side.instance.terms
+all-sizes side = total-size side.instance.terms (meanings_of side.instance.terms)
+    (kinds-mean side.instance.terms)
 
 sizes-to : (side : Numbered) (i : ℕ)
-    → total_by (take (i + 1) side.instance.terms) (meanings_of side.instance.terms) ≡ total_size_of (take (i + 1) side.instance.terms)
-sizes-to side i = first-sizes side.instance.terms (meanings_of side.instance.terms) (i + 1) (kinds-mean side.instance.terms)
+    → total_by (take (i + 1) side.instance.terms) (meanings_of side.instance.terms) ≡ total_size_of
+    (take (i + 1) side.instance.terms)
+sizes-to side i = first-sizes side.instance.terms (meanings_of side.instance.terms) (i + 1)
+    (kinds-mean side.instance.terms)
 
 -- too much by what the terms mean is too much by what they tell, and the other way round
 over-by-much : (l r : Numbered) (i : ℕ) → IsTooMuchAt (lined_of l) (lined_of r) i
@@ -55,7 +62,8 @@ much-by-over l r i (inr large) = inr (omega (arith, ints, large, all-sizes l, si
 
 -- the first line with which there is too much
 pub first-too-much : (l r : Numbered) (line : ℕ)
-    → PassesTogether (support_of l.instance.terms) (total_size_of l.instance.terms) r.instance.terms r.term_lines.items line
+    → PassesTogether (support_of l.instance.terms) (total_size_of l.instance.terms) r.instance.terms
+    r.term_lines.items line
     → IsFirstLine (IsTooMuchAt (lined_of l) (lined_of r)) r.term_lines.items line
 first-too-much l r line first = record {
   i = first.i;
@@ -71,7 +79,8 @@ not-too-much : (l r : Numbered) (line : ℕ) → length r.term_lines.items ≡ l
 not-too-much l r line counted m first =
     let terms = r.instance.terms in
     let all : take (length terms) terms ≡ terms = take_all (length terms) terms (omega arith) in
-    not-over (support_of l.instance.terms) (total_size_of l.instance.terms) terms (length terms) first.i
+    not-over (support_of l.instance.terms) (total_size_of l.instance.terms) terms (length terms)
+    first.i
     (rw all m.places) (rw all m.sizes)
     (omega (arith, counted, slice_get_within r.term_lines.items first.i line first.line_is))
     (over-by-much l r first.i first.holds)
@@ -81,12 +90,18 @@ pub together : (l r : Numbered) → length r.term_lines.items ≡ length r.insta
     → length l.term_lines.items ≡ length l.instance.terms
     → AreMeetable l.instance r.instance → GoTogether (lined_of l) (lined_of r)
 together l r counted _ m Ground line (differ, is) = differ m.same
-together l r counted _ m LeftNeed line (same, first) = no-need-line (lined_of l) line m.left_free first
-together l r counted _ m RightNeed line (same, free, first) = no-need-line (lined_of r) line m.right_free first
-together l r counted _ m Total line (same, free, free_too, first) = not-too-much l r line counted m first
+together l r counted _ m LeftNeed line (same, first) =
+    no-need-line (lined_of l) line m.left_free first
+together l r counted _ m RightNeed line (same, free, first) =
+    no-need-line (lined_of r) line m.right_free first
+together l r counted _ m Total line (same, free, free_too, first) =
+    not-too-much l r line counted m first
 
 -- a reason that was found names a clash
-pub clashes : (left : Lined) (text : List ℕ) (right : Numbered) (clash : Clash) (line : ℕ) (written : List ℕ)
-    → IsLined text (lined_of right) → IsClashOf left (lined_of right) clash line → written ≡ clash_line clash line
+pub clashes : (left : Lined) (text : List ℕ) (right : Numbered) (clash : Clash) (line : ℕ)
+    (written : List ℕ)
+    → IsLined text (lined_of right) → IsClashOf left (lined_of right) clash line
+    → written ≡ clash_line clash line
     → NamesClash left text written
-clashes left text right clash line written lined is_clash named = (lined_of right, lined, clash, line, is_clash, named)
+clashes left text right clash line written lined is_clash named =
+    (lined_of right, lined, clash, line, is_clash, named)

@@ -1,4 +1,5 @@
--- What a piece of the line of a laminar rank is tried for, and what is known of a line whose pieces have passed.
+-- What a piece of the line of a laminar rank is tried for, and what is known of a line whose pieces
+-- have passed.
 use Rattle.std.specs.Prelude.{◌≡◌, ℕ, ◌<◌, ◌≤◌, false, List, [], ◌∷◌, ◌++◌, length, codes, Any, Contains, Option, Some, None, MatchOption, Result, MatchResult}
 use Rattle.std.specs.Borrow.{Bor}
 use Rattle.std.specs.List.{All}
@@ -71,17 +72,20 @@ HasMembers elements piece = OfGroup (λ cap names. All (Contains elements) names
 
 -- some name of a piece is not
 abbrev pub LacksMember : List (List ℕ) → List (List ℕ) → Type 0
-LacksMember elements piece = SomeGroup (λ cap names. Any (λ name. Contains elements name → ⊥) names) piece
+LacksMember elements piece = SomeGroup (λ cap names. Any (λ name. Contains elements name → ⊥) names)
+    piece
 
 -- the number, the elements and the pieces of the groups have the shape of the line
-pub record AreShapedGroups (number : List ℕ) (elements : List (List ℕ)) (pieces : List (List (List ℕ))) : Type 0 where
+pub record AreShapedGroups (number : List ℕ) (elements : List (List ℕ))
+    (pieces : List (List (List ℕ))) : Type 0 where
   pub no_separator : IsSeparator number → ⊥
   pub some : 0 < length elements
   pub unmarked : HaveNoSeparator elements
   pub whole : All IsWhole pieces
 
 -- the number, the elements and the pieces of the groups have no reason before the law
-pub record AreGoodGroups (i : InstanceData) (number : List ℕ) (elements : List (List ℕ)) (pieces : List (List (List ℕ))) : Type 0 where
+pub record AreGoodGroups (i : InstanceData) (number : List ℕ) (elements : List (List ℕ))
+    (pieces : List (List (List ℕ))) : Type 0 where
   pub no_separator : IsSeparator number → ⊥
   pub some : 1 ≤ length elements
   pub unmarked : HaveNoSeparator elements
@@ -94,7 +98,8 @@ pub record AreGoodGroups (i : InstanceData) (number : List ℕ) (elements : List
   pub each_once : All IsOnce pieces
 
 -- the group that a piece tells
-pub record IsGroupOf (version : Version) (elements piece : List (List ℕ)) (group : Group) : Type 0 where
+pub record IsGroupOf (version : Version) (elements piece : List (List ℕ)) (group : Group) : Type
+    0 where
   pub cut : List ℕ × List (List ℕ)
   pub whole : IsGroupCut piece cut
   pub is_cap : IsNumberFor version RankWord cut.0 group.cap
@@ -106,8 +111,13 @@ laminar_tokens number behind = number ∷ codes "laminar" ∷ codes ":" ∷ behi
 
 -- each line with this word and these tokens behind it is refused so
 abbrev pub IsRefusedBy : InstanceData → TermWord → List (List ℕ) → LineEnd → Type 0
-IsRefusedBy instance word tokens end = (line : List ℕ) → IsLineOf line (word_text word ∷ tokens) → IsPlainRefusal (state_at Terms instance) line end
+IsRefusedBy instance word tokens end = (line : List ℕ) → IsLineOf line (word_text word ∷ tokens)
+    → IsPlainRefusal (state_at Terms instance) line end
 
--- a line with this word and these tokens behind it is told: by its term, or by its first reason, or by what else holds of it
-abbrev pub IsToldBy : InstanceData → TermWord → List (List ℕ) → Type 0 → Result (Option Kind) LineEnd → Type 0
-IsToldBy instance word tokens Other result = MatchResult result (λ told. MatchOption told Other (IsTermRead instance word tokens)) (IsRefusedBy instance word tokens)
+-- a line with this word and these tokens behind it is told: by its term, or by its first reason, or
+-- by what else holds of it
+abbrev pub IsToldBy : InstanceData → TermWord → List (List ℕ) → Type 0
+    → Result (Option Kind) LineEnd → Type 0
+IsToldBy instance word tokens Other result =
+    MatchResult result (λ told. MatchOption told Other (IsTermRead instance word tokens))
+    (IsRefusedBy instance word tokens)

@@ -24,17 +24,22 @@ use Rattle.sfm_lines.specs.ReadParts.{state_at, IsLineOf, IsNumberOf, IsKnown}
 -- the token passes the test, in a line of a text that the instance has been read of
 abbrev pub Holds : InstanceData → TokenTest → List ℕ → Type 0
 Holds i Pair token = (pair : List ℕ × List ℕ) × IsPairToken token pair
-Holds i PairNumber token = (pair : List ℕ × List ℕ) × IsPairToken token pair × IsNumberOf i.version WeightWord pair.1
-Holds i PairElement token = (pair : List ℕ × List ℕ) × IsPairToken token pair × IsKnown i.names pair.0
+Holds i PairNumber token = (pair : List ℕ × List ℕ) × IsPairToken token pair
+    × IsNumberOf i.version WeightWord pair.1
+Holds i PairElement token = (pair : List ℕ × List ℕ) × IsPairToken token pair
+    × IsKnown i.names pair.0
 Holds i Value token = IsNumberOf i.version ConcaveWord token
 Holds i Element token = IsKnown i.names token
 Holds i (Labelled rank) token = (entry : List ℕ × List (List ℕ)) × IsLabelToken rank token entry
-Holds i (LabelledElement rank) token = (entry : List ℕ × List (List ℕ)) × IsLabelToken rank token entry × IsKnown i.names entry.0
-Holds i (NamedLabels rank) token = (entry : List ℕ × List (List ℕ)) × IsLabelToken rank token entry × All IsName entry.1
+Holds i (LabelledElement rank) token = (entry : List ℕ × List (List ℕ))
+    × IsLabelToken rank token entry × IsKnown i.names entry.0
+Holds i (NamedLabels rank) token = (entry : List ℕ × List (List ℕ)) × IsLabelToken rank token entry
+    × All IsName entry.1
 
 -- the token does not pass it; of labels, some has not the form of a name
 abbrev pub Fails : InstanceData → TokenTest → List ℕ → Type 0
-Fails i (NamedLabels rank) token = (entry : List ℕ × List (List ℕ)) → IsLabelToken rank token entry → Any (λ text. IsName text → ⊥) entry.1
+Fails i (NamedLabels rank) token = (entry : List ℕ × List (List ℕ)) → IsLabelToken rank token entry
+    → Any (λ text. IsName text → ⊥) entry.1
 Fails i test token = Holds i test token → ⊥
 
 -- the elements of a line of that rank have labels
@@ -51,7 +56,8 @@ label_word _ = []
 
 -- the text is the word of that rank, or that of none
 abbrev pub IsRankNamed : RankKind → List ℕ → Type 0
-IsRankNamed NoRank text = (text ≢ codes "uniform") × (text ≢ codes "laminar") × (text ≢ codes "graphic") × (text ≢ codes "transversal")
+IsRankNamed NoRank text = (text ≢ codes "uniform") × (text ≢ codes "laminar")
+    × (text ≢ codes "graphic") × (text ≢ codes "transversal")
 IsRankNamed UniformRank text = text ≡ codes "uniform"
 IsRankNamed LaminarRank text = text ≡ codes "laminar"
 IsRankNamed GraphicRank text = text ≡ codes "graphic"
@@ -69,10 +75,12 @@ texts_between Comma line = slots_behind line
 
 -- the token is an entry in which a slot stands twice
 abbrev pub RepeatsSlot : List ℕ → Type 0
-RepeatsSlot token = (entry : List ℕ × List (List ℕ)) × IsLabelToken TransversalRank token entry × StandsTwice entry.1
+RepeatsSlot token = (entry : List ℕ × List (List ℕ)) × IsLabelToken TransversalRank token entry
+    × StandsTwice entry.1
 
 -- elements with labels that have no reason before that something stands twice
-pub record AreGoodEntries (i : InstanceData) (rank : RankKind) (number colon : List ℕ) (tokens : List (List ℕ)) : Type 0 where
+pub record AreGoodEntries (i : InstanceData) (rank : RankKind) (number colon : List ℕ)
+    (tokens : List (List ℕ)) : Type 0 where
   pub no_separator : IsSeparator number → ⊥
   pub is_colon : colon ≡ codes ":"
   pub each : All (Holds i (Labelled rank)) tokens
@@ -81,13 +89,16 @@ pub record AreGoodEntries (i : InstanceData) (rank : RankKind) (number colon : L
   pub named : All (Holds i (NamedLabels rank)) tokens
 
 -- entries of a transversal rank that have no reason but perhaps that an element stands twice
-pub record AreFewEntries (i : InstanceData) (number colon : List ℕ) (tokens : List (List ℕ)) : Type 0 where
+pub record AreFewEntries (i : InstanceData) (number colon : List ℕ) (tokens : List (List ℕ)) : Type
+    0 where
   pub good : AreGoodEntries i TransversalRank number colon tokens
   pub few : length tokens ≤ 256
   pub once : All (λ token. RepeatsSlot token → ⊥) tokens
 
--- elements and first slots, as many of each entry as there are entries, of such entries of which there is at least one
-pub record AreCutEntries (i : InstanceData) (number colon : List ℕ) (tokens : List (List ℕ)) (parts : LineParts) : Type 0 where
+-- elements and first slots, as many of each entry as there are entries, of such entries of which
+-- there is at least one
+pub record AreCutEntries (i : InstanceData) (number colon : List ℕ) (tokens : List (List ℕ))
+    (parts : LineParts) : Type 0 where
   pub good : AreFewEntries i number colon tokens
   pub some : 0 < length tokens
   pub entries : List (List ℕ × List (List ℕ))
@@ -102,10 +113,13 @@ pub record IsKept (tokens kept rest : List (List ℕ)) : Type 0 where
 
 -- each line with this word and these tokens behind it has that reason first
 abbrev pub IsReasonOf : InstanceData → TermWord → List (List ℕ) → Reason → Type 0
-IsReasonOf instance word tokens reason = (line : List ℕ) → IsLineOf line (word_text word ∷ tokens) → FirstPlain (state_at Terms instance) line reason
+IsReasonOf instance word tokens reason = (line : List ℕ) → IsLineOf line (word_text word ∷ tokens)
+    → FirstPlain (state_at Terms instance) line reason
 
--- the line has numbers of its word and those elements, which are more than a ground has, and nothing else
-pub record HasTooMany (version : Version) (word : TermWord) (rest elements : List (List ℕ)) : Type 0 where
+-- the line has numbers of its word and those elements, which are more than a ground has, and
+-- nothing else
+pub record HasTooMany (version : Version) (word : TermWord) (rest elements : List (List ℕ)) : Type
+    0 where
   pub parts : LineParts
   pub shape : HasParts word rest parts
   pub numbers : List ℤ

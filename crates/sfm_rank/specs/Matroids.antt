@@ -4,11 +4,14 @@ use Rattle.std.proofs.Common.{◌≡◌, ℕ, ◌<◌, Bool, true, false, List, 
 use Rattle.sfm_spec.specs.Sets.{Has, IsWithin, empty_set, size}
 use Rattle.sfm_spec.specs.Kinds.{IsRank}
 
--- the empty set is independent, parts of independent sets are, and of two the smaller can take a place of the larger
+-- the empty set is independent, parts of independent sets are, and of two the smaller can take a
+-- place of the larger
 pub record IsMatroid (k : ℕ) (IsIndependent : List Bool → Type 0) : Type 0 where
   pub empty : IsIndependent (empty_set k)
-  pub parts : (s t : List Bool) → length s ≡ k → length t ≡ k → IsWithin s t → IsIndependent t → IsIndependent s
-  pub grows : (s t : List Bool) → length s ≡ k → length t ≡ k → IsIndependent s → IsIndependent t → size s < size t
+  pub parts : (s t : List Bool) → length s ≡ k → length t ≡ k → IsWithin s t → IsIndependent t
+      → IsIndependent s
+  pub grows : (s t : List Bool) → length s ≡ k → length t ≡ k → IsIndependent s → IsIndependent t
+      → size s < size t
       → (e : ℕ) × Has t e × (get_or s e false ≡ false) × IsIndependent (set s e true)
 
 -- the rank of each set of k places

@@ -15,4 +15,5 @@ at_places m (b ∷ s) = (if b then m else pos 0) ∷ at_places m s
 -- a set that has a place exactly where it adds to the rank of the places before it
 pub record IsFirstBasis (k : ℕ) (rank : List Bool → ℕ) (basis : List Bool) : Type 0 where
   pub places : length basis ≡ k
-  pub gains : (j : ℕ) → j < k → rank (front k (suc j)) ≡ rank (front k j) + cond (get_or basis j false) 1 0
+  pub gains : (j : ℕ) → j < k → rank (front k (suc j)) ≡ rank (front k j) + cond
+      (get_or basis j false) 1 0

@@ -17,11 +17,13 @@ set_at sets k = slice_index_or sets k blank_bits
 
 -- s has the ground places of the first k places of a part
 abbrev pub HasPlaces : List ℕ → List Bool → ℕ → Bits → Type 0
-HasPlaces places part k s = (e : ℕ) → (bit_in s e ≡ 1) ↔ ((v : ℕ) × (v < k) × Has part v × (slice_index_or places v 0 ≡ e))
+HasPlaces places part k s = (e : ℕ) → (bit_in s e ≡ 1)
+    ↔ ((v : ℕ) × (v < k) × Has part v × (slice_index_or places v 0 ≡ e))
 
 -- joined has what either set has, but not the place out
 abbrev pub IsUnionBut : Bits → Bits → ℕ → Bits → Type 0
-IsUnionBut s more out joined = (e : ℕ) → (bit_in joined e ≡ 1) ↔ ((e ≢ out) × ((bit_in s e ≡ 1) ⊎ (bit_in more e ≡ 1)))
+IsUnionBut s more out joined = (e : ℕ) → (bit_in joined e ≡ 1)
+    ↔ ((e ≢ out) × ((bit_in s e ≡ 1) ⊎ (bit_in more e ≡ 1)))
 
 -- a place is taken out of a set
 pub record IsTaken (before : Bits) (e : ℕ) (after : Bits) : Type 0 where

@@ -1,4 +1,5 @@
--- Behind the first line of an answer text, what may stand where does not depend on what that line says.
+-- Behind the first line of an answer text, what may stand where does not depend on what that line
+-- says.
 use Rattle.std.proofs.Common.{◌≡◌, ⊎_elim, ℕ, List, [], ◌∷◌, ℤ, sym, subst}
 use Rattle.std.specs.Prelude.{codes}
 use Rattle.sfm_spec.specs.Blocks.{Block}

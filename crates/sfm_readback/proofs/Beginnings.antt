@@ -1,5 +1,5 @@
--- Lines that lead anywhere are the beginning of an answer: each place can be gone on from to the end, and lines that lead
--- to the end are the lines of an answer.
+-- Lines that lead anywhere are the beginning of an answer: each place can be gone on from to the
+-- end, and lines that lead to the end are the lines of an answer.
 use Rattle.std.proofs.Common.{◌≡◌, ℕ, zero, suc, ◌+◌, ◌<◌, Bool, false, List, [], ◌∷◌, ◌++◌, length, map, replicate, ℤ, pos, inl, inr, refl, sym, ap, subst, ◌∙◌, arith, append_assoc}
 use Rattle.std.specs.Prelude.{codes}
 use Rattle.std.specs.List.{All}
@@ -47,14 +47,18 @@ push_some : (slopes : List Ratio) (r : Ratio) → slopes ++ r ∷ [] ≡ [] → 
 push_some [] r e = cc
 push_some (x ∷ slopes) r e = cc
 
-same_four : {a a' b b' c c' d d' : List ℕ} → a ≡ a' → b ≡ b' → c ≡ c' → d ≡ d' → (lines : List (List ℕ)) → a ∷ b ∷ c ∷ d ∷ lines ≡ a' ∷ b' ∷ c' ∷ d' ∷ lines
+same_four : {a a' b b' c c' d d' : List ℕ} → a ≡ a' → b ≡ b' → c ≡ c' → d ≡ d'
+    → (lines : List (List ℕ)) → a ∷ b ∷ c ∷ d ∷ lines ≡ a' ∷ b' ∷ c' ∷ d' ∷ lines
 same_four e f g h lines = cc
 
 -- what holds for a block and for those behind it holds for each
-each_block : (n k : ℕ) (block : Block) (blocks : List Block) → IsFormedBlock n k block → ((i : ℕ) → i < length blocks → IsFormedBlock n (k + 1 + i) (block_at blocks i))
+each_block : (n k : ℕ) (block : Block) (blocks : List Block) → IsFormedBlock n k block
+    → ((i : ℕ) → i < length blocks → IsFormedBlock n (k + 1 + i) (block_at blocks i))
     → (i : ℕ) → i < length (block ∷ blocks) → IsFormedBlock n (k + i) (block_at (block ∷ blocks) i)
 each_block n k block blocks f g zero lt = subst (λ (m : ℕ). IsFormedBlock n m block) (zero_more k) f
-each_block n k block blocks f g (suc i) lt = subst (λ (m : ℕ). IsFormedBlock n m (block_at blocks i)) (one_more k i) (g i (one_less i (length blocks) lt))
+each_block n k block blocks f g (suc i) lt =
+    subst (λ (m : ℕ). IsFormedBlock n m (block_at blocks i)) (one_more k i)
+    (g i (one_less i (length blocks) lt))
 
 -- ---- none of these places is the end
 
@@ -80,11 +84,22 @@ module _ (form : Form) where
   abbrev Goes : State → Type 0
   Goes s = (lines : List (List ℕ)) × LeadsOn form s lines ended
 
-  goes_bases : (i : ℕ) (widths : List ℕ) (due : List Ratio) → ((k : ℕ) → Goes (bases k [] due)) → Goes (bases i widths due)
+  goes_bases : (i : ℕ) (widths : List ℕ) (due : List Ratio) → ((k : ℕ) → Goes (bases k [] due))
+      → Goes (bases i widths due)
   goes_bases i [] due more = more i
   goes_bases i (width ∷ widths) due more =
-      let g = goes_bases (i + 1) widths due more in
-      (base_line form.lines i (zeros width) ∷ g.0, (bases (i + 1) widths due, (zeros width, (length-replicate width (pos 0), All-replicate IsEntry width (pos 0) zero_entry, refl), refl), g.1))
+      let g = goes_bases (i + 1) widths due more in (
+        base_line form.lines i (zeros width) ∷ g.0,
+        (
+          bases (i + 1) widths due,
+          (
+            zeros width,
+            (length-replicate width (pos 0), All-replicate IsEntry width (pos 0) zero_entry, refl),
+            refl,
+          ),
+          g.1,
+        ),
+      )
 
   goes_due : (due : List Ratio) (i : ℕ) → Goes (bases i [] due)
   goes_due [] i = (codes "end" ∷ [], (ended, (refl, refl), refl))
@@ -102,18 +117,28 @@ module _ (form : Form) where
 
   goes_greatest : Goes greatest
   goes_greatest =
-      let g = goes_listing 0 [] in
-      ((codes "greatest" ++ listed form.names no_places) ∷ g.0, (listing 0 [], (no_places, (length-replicate (length form.names) false, refl), refl), g.1))
+      let g = goes_listing 0 [] in (
+        (codes "greatest" ++ listed form.names no_places) ∷ g.0,
+        (
+          listing 0 [],
+          (no_places, (length-replicate (length form.names) false, refl), refl),
+          g.1,
+        ),
+      )
 
   goes_least : Goes least
   goes_least =
-      let g = goes_greatest in
-      ((codes "least" ++ listed form.names no_places) ∷ g.0, (greatest, (no_places, (length-replicate (length form.names) false, refl), refl), g.1))
+      let g = goes_greatest in (
+        (codes "least" ++ listed form.names no_places) ∷ g.0,
+        (greatest, (no_places, (length-replicate (length form.names) false, refl), refl), g.1),
+      )
 
   goes_minimum : Goes minimum
   goes_minimum =
-      let g = goes_least in
-      ((codes "minimum " ++ signed_decimal (pos 0)) ∷ g.0, (least, (pos 0, (zero_entry, refl), refl), g.1))
+      let g = goes_least in (
+        (codes "minimum " ++ signed_decimal (pos 0)) ∷ g.0,
+        (least, (pos 0, (zero_entry, refl), refl), g.1),
+      )
 
   goes_on : (s : State) → Goes s
   goes_on header = let g = goes_minimum in (form.header ∷ g.0, (minimum, (refl, refl), g.1))
@@ -133,41 +158,60 @@ module _ (form : Form) where
   -- the sections that are due, and the end
   abbrev HoldsDue : List Ratio → List (List ℕ) → Type 0
   HoldsDue [] lines = lines ≡ codes "end" ∷ []
-  HoldsDue (r ∷ due) lines = (rows : List (List ℤ)) × (more : List (List ℕ)) × AreFormedRows form.widths rows × (lines ≡ section_lines form.lines r.num r.den rows ++ more) × HoldsDue due more
+  HoldsDue (r ∷ due) lines = (rows : List (List ℤ)) × (more : List (List ℕ))
+      × AreFormedRows form.widths rows × (lines ≡ section_lines form.lines r.num r.den rows ++ more)
+      × HoldsDue due more
 
-  record HoldsBases (i : ℕ) (widths : List ℕ) (due : List Ratio) (lines : List (List ℕ)) : Type 0 where
+  record HoldsBases (i : ℕ) (widths : List ℕ) (due : List Ratio) (lines : List (List ℕ)) : Type
+      0 where
     rows : List (List ℤ)
     more : List (List ℕ)
     formed : AreFormedRows widths rows
     cut : lines ≡ base_lines form.lines i rows ++ more
     holds : HoldsDue due more
 
-  holds_bases : (lines : List (List ℕ)) (i : ℕ) (widths : List ℕ) (due : List Ratio) → LeadsOn form (bases i widths due) lines ended → HoldsBases i widths due lines
+  holds_bases : (lines : List (List ℕ)) (i : ℕ) (widths : List ℕ) (due : List Ratio)
+      → LeadsOn form (bases i widths due) lines ended → HoldsBases i widths due lines
   holds_bases [] i widths due e = absurd (not_bases i widths due e)
   holds_bases (line ∷ lines) i (width ∷ widths) due (next, step, more) =
-      let h = holds_bases lines (i + 1) widths due (subst (λ (s : State). LeadsOn form s lines ended) step.2 more) in
+      let h = holds_bases lines (i + 1) widths due
+      (subst (λ (s : State). LeadsOn form s lines ended) step.2 more) in
       record {
         rows = step.0 ∷ h.rows;
         more = h.more;
-        formed = record { widths_are = ap (λ (n : ℕ). n ∷ map length h.rows) step.1.0 ∙ ap (λ (w : List ℕ). width ∷ w) h.formed.widths_are; small = All-cons (λ (x : List ℤ). All IsEntry x) step.0 h.rows step.1.1 h.formed.small };
-        cut = ap (λ (l : List ℕ). l ∷ lines) step.1.2 ∙ ap (λ (l : List (List ℕ)). base_line form.lines i step.0 ∷ l) h.cut;
+        formed = record {
+          widths_are = ap (λ (n : ℕ). n ∷ map length h.rows) step.1.0
+              ∙ ap (λ (w : List ℕ). width ∷ w) h.formed.widths_are;
+          small = All-cons (λ (x : List ℤ). All IsEntry x) step.0 h.rows step.1.1 h.formed.small;
+        };
+        cut = ap (λ (l : List ℕ). l ∷ lines) step.1.2
+            ∙ ap (λ (l : List (List ℕ)). base_line form.lines i step.0 ∷ l) h.cut;
         holds = h.holds;
       }
   holds_bases (line ∷ lines) i [] (r ∷ due) (next, step, more) =
-      let h = holds_bases lines 1 form.widths due (subst (λ (s : State). LeadsOn form s lines ended) step.1 more) in
+      let h = holds_bases lines 1 form.widths due
+      (subst (λ (s : State). LeadsOn form s lines ended) step.1 more) in
       record {
         rows = [];
         more = line ∷ lines;
         formed = record { widths_are = refl; small = All-nil (λ (x : List ℤ). All IsEntry x) };
         cut = refl;
-        holds = (h.rows, h.more, h.formed, ap (λ (l : List ℕ). l ∷ lines) step.0 ∙ ap (λ (l : List (List ℕ)). at_line r.num r.den ∷ l) h.cut, h.holds);
+        holds = (
+          h.rows,
+          h.more,
+          h.formed,
+          ap (λ (l : List ℕ). l ∷ lines) step.0
+              ∙ ap (λ (l : List (List ℕ)). at_line r.num r.den ∷ l) h.cut,
+          h.holds,
+        );
       }
   holds_bases (line ∷ lines) i [] [] (next, step, more) = record {
     rows = [];
     more = line ∷ lines;
     formed = record { widths_are = refl; small = All-nil (λ (x : List ℤ). All IsEntry x) };
     cut = refl;
-    holds = ap (λ (l : List ℕ). l ∷ lines) step.0 ∙ ap (λ (l : List (List ℕ)). codes "end" ∷ l) (nothing lines (subst (λ (s : State). LeadsOn form s lines ended) step.1 more));
+    holds = ap (λ (l : List ℕ). l ∷ lines) step.0 ∙ ap (λ (l : List (List ℕ)). codes "end" ∷ l)
+        (nothing lines (subst (λ (s : State). LeadsOn form s lines ended) step.1 more));
   }
 
   -- the blocks and the slopes that are still to come, and the bases
@@ -176,20 +220,26 @@ module _ (form : Form) where
     heads : List Break
     rows : List (List ℤ)
     more : List (List ℕ)
-    are_blocks : (i : ℕ) → i < length blocks → IsFormedBlock (length form.names) (k + i) (block_at blocks i)
-    are_heads : All (λ b. IsSlopeLine form.names (slope_line form.names b) (ratio_of b) b.members) heads
+    are_blocks : (i : ℕ) → i < length blocks
+        → IsFormedBlock (length form.names) (k + i) (block_at blocks i)
+    are_heads : All (λ b. IsSlopeLine form.names (slope_line form.names b) (ratio_of b) b.members)
+        heads
     are_rows : AreFormedRows form.widths rows
-    cut : lines ≡ block_lines form.names (k + 1) blocks ++ (slope_lines form.names heads ++ at_line (pos 0) (pos 1) ∷ (base_lines form.lines 1 rows ++ more))
+    cut : lines ≡ block_lines form.names (k + 1)
+        blocks ++ (slope_lines form.names heads ++ at_line (pos 0)
+        (pos 1) ∷ (base_lines form.lines 1 rows ++ more))
     holds : HoldsDue (slopes ++ map ratio_of heads) more
     in_order : (slopes ≡ [] → ⊥) → blocks ≡ []
 
   abbrev IsSlope : Break → Type 0
   IsSlope b = IsSlopeLine form.names (slope_line form.names b) (ratio_of b) b.members
 
-  holds_listing : (lines : List (List ℕ)) (k : ℕ) (slopes : List Ratio) → LeadsOn form (listing k slopes) lines ended → HoldsListing k slopes lines
+  holds_listing : (lines : List (List ℕ)) (k : ℕ) (slopes : List Ratio)
+      → LeadsOn form (listing k slopes) lines ended → HoldsListing k slopes lines
   holds_listing [] k slopes e = absurd (not_listing k slopes e)
   holds_listing (line ∷ lines) k slopes (next, inl (block, is, none, goes), more) =
-      let h = holds_listing lines (k + 1) [] (subst (λ (s : State). LeadsOn form s lines ended) goes more) in
+      let h = holds_listing lines (k + 1) []
+      (subst (λ (s : State). LeadsOn form s lines ended) goes more) in
       record {
         blocks = block ∷ h.blocks;
         heads = h.heads;
@@ -198,12 +248,15 @@ module _ (form : Form) where
         are_blocks = each_block (length form.names) k block h.blocks is.0 h.are_blocks;
         are_heads = h.are_heads;
         are_rows = h.are_rows;
-        cut = ap (λ (l : List ℕ). l ∷ lines) is.1 ∙ ap (λ (l : List (List ℕ)). block_line form.names (k + 1) block ∷ l) h.cut;
-        holds = subst (λ (x : List Ratio). HoldsDue (x ++ map ratio_of h.heads) h.more) (sym none) h.holds;
+        cut = ap (λ (l : List ℕ). l ∷ lines) is.1
+            ∙ ap (λ (l : List (List ℕ)). block_line form.names (k + 1) block ∷ l) h.cut;
+        holds = subst (λ (x : List Ratio). HoldsDue (x ++ map ratio_of h.heads) h.more) (sym none)
+            h.holds;
         in_order = λ some. absurd (some none);
       }
   holds_listing (line ∷ lines) k slopes (next, inr (inl (r, s, is, goes)), more) =
-      let h = holds_listing lines k (slopes ++ r ∷ []) (subst (λ (t : State). LeadsOn form t lines ended) goes more) in
+      let h = holds_listing lines k (slopes ++ r ∷ [])
+      (subst (λ (t : State). LeadsOn form t lines ended) goes more) in
       let b : Break = record { num = r.num; den = r.den; members = s; bases = [] } in
       let none : h.blocks ≡ [] = h.in_order (push_some slopes r) in
       record {
@@ -212,16 +265,27 @@ module _ (form : Form) where
         rows = h.rows;
         more = h.more;
         are_blocks = λ i lt. absurd (no_place i lt);
-        are_heads = All-cons IsSlope b h.heads (record { lowest = is.lowest; entry = is.entry; factor = is.factor; members = is.members; written = refl }) h.are_heads;
+        are_heads = All-cons IsSlope b h.heads
+            (record {
+              lowest = is.lowest;
+              entry = is.entry;
+              factor = is.factor;
+              members = is.members;
+              written = refl;
+            }) h.are_heads;
         are_rows = h.are_rows;
         cut = ap (λ (l : List ℕ). l ∷ lines) is.written
             ∙ ap (λ (l : List (List ℕ)). slope_line form.names b ∷ l)
-            (h.cut ∙ ap (λ (x : List Block). block_lines form.names (k + 1) x ++ (slope_lines form.names h.heads ++ at_line (pos 0) (pos 1) ∷ (base_lines form.lines 1 h.rows ++ h.more))) none);
-        holds = subst (λ (x : List Ratio). HoldsDue x h.more) (append_assoc slopes (r ∷ []) (map ratio_of h.heads)) h.holds;
+            (h.cut ∙ ap (λ (x : List Block). block_lines form.names (k + 1)
+            x ++ (slope_lines form.names h.heads ++ at_line (pos 0)
+            (pos 1) ∷ (base_lines form.lines 1 h.rows ++ h.more))) none);
+        holds = subst (λ (x : List Ratio). HoldsDue x h.more)
+            (append_assoc slopes (r ∷ []) (map ratio_of h.heads)) h.holds;
         in_order = λ some. refl;
       }
   holds_listing (line ∷ lines) k slopes (next, inr (inr (is, goes)), more) =
-      let h = holds_bases lines 1 form.widths slopes (subst (λ (t : State). LeadsOn form t lines ended) goes more) in
+      let h = holds_bases lines 1 form.widths slopes
+      (subst (λ (t : State). LeadsOn form t lines ended) goes more) in
       record {
         blocks = [];
         heads = [];
@@ -230,7 +294,8 @@ module _ (form : Form) where
         are_blocks = λ i lt. absurd (no_place i lt);
         are_heads = All-nil IsSlope;
         are_rows = h.formed;
-        cut = ap (λ (l : List ℕ). l ∷ lines) is ∙ ap (λ (l : List (List ℕ)). at_line (pos 0) (pos 1) ∷ l) h.cut;
+        cut = ap (λ (l : List ℕ). l ∷ lines) is
+            ∙ ap (λ (l : List (List ℕ)). at_line (pos 0) (pos 1) ∷ l) h.cut;
         holds = subst (λ (x : List Ratio). HoldsDue x h.more) (sym (append-nil slopes)) h.holds;
         in_order = λ some. refl;
       }
@@ -242,17 +307,32 @@ module _ (form : Form) where
     same : slope_lines form.names breaks ≡ slope_lines form.names heads
     cut : lines ≡ break_lines form.lines breaks ++ codes "end" ∷ []
 
-  with_bases : (heads : List Break) (lines : List (List ℕ)) → All IsSlope heads → HoldsDue (map ratio_of heads) lines → HoldsBreaks heads lines
-  with_bases [] lines h e = record { breaks = []; are = All-nil (IsFormedBreak (length form.names) form.widths); same = refl; cut = e }
+  with_bases : (heads : List Break) (lines : List (List ℕ)) → All IsSlope heads
+      → HoldsDue (map ratio_of heads) lines → HoldsBreaks heads lines
+  with_bases [] lines h e = record {
+    breaks = [];
+    are = All-nil (IsFormedBreak (length form.names) form.widths);
+    same = refl;
+    cut = e;
+  }
   with_bases (b ∷ heads) lines h (rows, more, formed, cut, due) =
       let t = with_bases heads more (All-tail IsSlope b heads h) due in
       let is = All-head IsSlope b heads h in
       let c : Break = record { num = b.num; den = b.den; members = b.members; bases = rows } in
       record {
         breaks = c ∷ t.breaks;
-        are = All-cons (IsFormedBreak (length form.names) form.widths) c t.breaks (record { lowest = is.lowest; entry = is.entry; factor = is.factor; members = is.members; bases = formed }) t.are;
+        are = All-cons (IsFormedBreak (length form.names) form.widths) c t.breaks
+            (record {
+              lowest = is.lowest;
+              entry = is.entry;
+              factor = is.factor;
+              members = is.members;
+              bases = formed;
+            }) t.are;
         same = ap (λ (l : List (List ℕ)). slope_line form.names b ∷ l) t.same;
-        cut = cut ∙ ap (λ (l : List (List ℕ)). section_lines form.lines b.num b.den rows ++ l) t.cut ∙ sym (append_assoc (section_lines form.lines b.num b.den rows) (break_lines form.lines t.breaks) (codes "end" ∷ []));
+        cut = cut ∙ ap (λ (l : List (List ℕ)). section_lines form.lines b.num b.den rows ++ l) t.cut
+            ∙ sym (append_assoc (section_lines form.lines b.num b.den rows)
+            (break_lines form.lines t.breaks) (codes "end" ∷ []));
       }
 
   pub record Whole (lines : List (List ℕ)) : Type 0 where
@@ -260,17 +340,44 @@ module _ (form : Form) where
     pub formed : IsFormed form answer
     pub cut : answer_lines form answer ≡ lines
 
-  whole_from : (value : ℤ) (low high : List Bool) (lines : List (List ℕ)) → IsEntry value → length low ≡ length form.names → length high ≡ length form.names → HoldsListing 0 [] lines
-      → Whole (form.header ∷ (codes "minimum " ++ signed_decimal value) ∷ (codes "least" ++ listed form.names low) ∷ (codes "greatest" ++ listed form.names high) ∷ lines)
+  whole_from : (value : ℤ) (low high : List Bool) (lines : List (List ℕ)) → IsEntry value
+      → length low ≡ length form.names → length high ≡ length form.names → HoldsListing 0 [] lines
+      → Whole (form.header ∷ (codes "minimum " ++ signed_decimal value)
+      ∷ (codes "least" ++ listed form.names low) ∷ (codes "greatest" ++ listed form.names high)
+      ∷ lines)
   whole_from value low high lines hv hl hh h =
       let t = with_bases h.heads h.more h.are_heads h.holds in
       record {
-        answer = record { value = value; least = low; greatest = high; blocks = h.blocks; bases = h.rows; breaks = t.breaks };
-        formed = record { value = hv; least = hl; greatest = hh; blocks = λ i lt. subst (λ (n : ℕ). IsFormedBlock (length form.names) n (block_at h.blocks i)) (from_zero i) (h.are_blocks i lt); bases = h.are_rows; breaks = t.are };
-        cut = ap (λ (l : List (List ℕ)). form.header ∷ (codes "minimum " ++ signed_decimal value) ∷ (codes "least" ++ listed form.names low) ∷ (codes "greatest" ++ listed form.names high) ∷ l)
-            (regroup (block_lines form.names 1 h.blocks) (slope_lines form.names t.breaks) (at_line (pos 0) (pos 1)) (base_lines form.lines 1 h.rows) (break_lines form.lines t.breaks) (codes "end" ∷ [])
-            ∙ ap (λ (l : List (List ℕ)). block_lines form.names 1 h.blocks ++ (l ++ at_line (pos 0) (pos 1) ∷ (base_lines form.lines 1 h.rows ++ (break_lines form.lines t.breaks ++ codes "end" ∷ [])))) t.same
-            ∙ ap (λ (l : List (List ℕ)). block_lines form.names 1 h.blocks ++ (slope_lines form.names h.heads ++ at_line (pos 0) (pos 1) ∷ (base_lines form.lines 1 h.rows ++ l))) (sym t.cut)
+        answer = record {
+          value = value;
+          least = low;
+          greatest = high;
+          blocks = h.blocks;
+          bases = h.rows;
+          breaks = t.breaks;
+        };
+        formed = record {
+          value = hv;
+          least = hl;
+          greatest = hh;
+          blocks = λ i lt. subst (λ (n : ℕ). IsFormedBlock (length form.names) n
+              (block_at h.blocks i)) (from_zero i) (h.are_blocks i lt);
+          bases = h.are_rows;
+          breaks = t.are;
+        };
+        cut = ap (λ (l : List (List ℕ)). form.header ∷ (codes "minimum " ++ signed_decimal value)
+            ∷ (codes "least" ++ listed form.names low)
+            ∷ (codes "greatest" ++ listed form.names high) ∷ l)
+            (regroup (block_lines form.names 1 h.blocks) (slope_lines form.names t.breaks)
+            (at_line (pos 0) (pos 1)) (base_lines form.lines 1 h.rows)
+            (break_lines form.lines t.breaks) (codes "end" ∷ [])
+            ∙ ap (λ (l : List (List ℕ)). block_lines form.names 1
+            h.blocks ++ (l ++ at_line (pos 0)
+            (pos 1) ∷ (base_lines form.lines 1
+            h.rows ++ (break_lines form.lines t.breaks ++ codes "end" ∷ [])))) t.same
+            ∙ ap (λ (l : List (List ℕ)). block_lines form.names 1
+            h.blocks ++ (slope_lines form.names h.heads ++ at_line (pos 0)
+            (pos 1) ∷ (base_lines form.lines 1 h.rows ++ l))) (sym t.cut)
             ∙ sym h.cut);
       }
 
@@ -288,11 +395,18 @@ module _ (form : Form) where
       let k2 = subst (λ (s : State). Leads form s l1 s2) h1.1 h2 in
       let k3 = subst (λ (s : State). Leads form s l2 s3) k2.2 h3 in
       let k4 = subst (λ (s : State). Leads form s l3 s4) k3.2 h4 in
-      let w = whole_from k2.0 k3.0 k4.0 lines k2.1.0 k3.1.0 k4.1.0 (holds_listing lines 0 [] (subst (λ (s : State). LeadsOn form s lines ended) k4.2 more)) in
-      record { answer = w.answer; formed = w.formed; cut = w.cut ∙ same_four (sym h1.0) (sym k2.1.1) (sym k3.1.1) (sym k4.1.1) lines }
+      let w = whole_from k2.0 k3.0 k4.0 lines k2.1.0 k3.1.0 k4.1.0
+      (holds_listing lines 0 [] (subst (λ (s : State). LeadsOn form s lines ended) k4.2
+      more)) in
+      record {
+        answer = w.answer;
+        formed = w.formed;
+        cut = w.cut ∙ same_four (sym h1.0) (sym k2.1.1) (sym k3.1.1) (sym k4.1.1) lines;
+      }
 
   -- lines that lead anywhere are the first ones of an answer
-  pub begins_from : (lines : List (List ℕ)) (s : State) → LeadsOn form header lines s → BeginsOne (IsFormed form) (answer_lines form) lines
+  pub begins_from : (lines : List (List ℕ)) (s : State) → LeadsOn form header lines s
+      → BeginsOne (IsFormed form) (answer_lines form) lines
   begins_from lines s h =
       let g = goes_on s in
       let w = whole (lines ++ g.0) (leads-append (Leads form) header lines s g.0 ended h g.1) in

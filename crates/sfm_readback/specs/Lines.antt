@@ -23,7 +23,8 @@ IsSetLine word names line s = (length s ≡ length names) × (line ≡ word ++ l
 
 -- the line of the block behind i others
 abbrev pub IsBlockLine : List (List ℕ) → ℕ → List ℕ → Block → Type 0
-IsBlockLine names i line block = IsFormedBlock (length names) i block × (line ≡ block_line names (i + 1) block)
+IsBlockLine names i line block = IsFormedBlock (length names) i block
+    × (line ≡ block_line names (i + 1) block)
 
 -- a number over a number
 pub record Ratio : Type 0 where
@@ -33,7 +34,8 @@ pub record Ratio : Type 0 where
 abbrev pub ratio_of : Break → Ratio
 ratio_of b = record { num = b.num; den = b.den }
 
-pub record IsSlopeLine (names : List (List ℕ)) (line : List ℕ) (r : Ratio) (s : List Bool) : Type 0 where
+pub record IsSlopeLine (names : List (List ℕ)) (line : List ℕ) (r : Ratio) (s : List Bool) : Type
+    0 where
   pub lowest : IsLowest r.num r.den
   pub entry : IsEntry r.num
   pub factor : IsFactor r.den
@@ -42,7 +44,8 @@ pub record IsSlopeLine (names : List (List ℕ)) (line : List ℕ) (r : Ratio) (
 
 -- a word, a label and so many numbers
 abbrev pub IsRowLine : List ℕ → List ℕ → ℕ → List ℕ → List ℤ → Type 0
-IsRowLine word label width line x = (length x ≡ width) × All IsEntry x × (line ≡ row_line word label x)
+IsRowLine word label width line x = (length x ≡ width) × All IsEntry x
+    × (line ≡ row_line word label x)
 
 -- the line of a base by its label, which has so many numbers
 abbrev pub IsBaseLine : List ℕ → ℕ → List ℕ → List ℤ → Type 0

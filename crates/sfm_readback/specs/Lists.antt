@@ -14,10 +14,12 @@ abbrev pub IsNamesStop : List ℕ → Type 0
 IsNamesStop rest = (rest ≡ []) ⊎ ((more : List ℕ) × (rest ≡ 32 ∷ (58 ∷ more)))
 
 -- the only way to cut the bytes into a list of names and what may stand behind one
-pub record IsListCut (names : List (List ℕ)) (bytes : List ℕ) (s : List Bool) (rest : List ℕ) : Type 0 where
+pub record IsListCut (names : List (List ℕ)) (bytes : List ℕ) (s : List Bool) (rest : List ℕ) : Type
+    0 where
   pub places : length s ≡ length names
   pub cut : bytes ≡ listed names s ++ rest
-  pub only : (t : List Bool) (other : List ℕ) → length t ≡ length names → IsNamesStop other → bytes ≡ listed names t ++ other → (t ≡ s) × (other ≡ rest)
+  pub only : (t : List Bool) (other : List ℕ) → length t ≡ length names → IsNamesStop other
+      → bytes ≡ listed names t ++ other → (t ≡ s) × (other ≡ rest)
 
 -- numbers of blocks, ascending, from 1 to most
 pub record AreNeeds (most : ℕ) (needs : List ℕ) : Type 0 where

@@ -1,4 +1,5 @@
--- How a text is read, line by line, and the rule of answer texts: what may stand next, and what is due behind it.
+-- How a text is read, line by line, and the rule of answer texts: what may stand next, and what is
+-- due behind it.
 use Rattle.std.specs.Prelude.{◌≡◌, ◌⊎◌, ℕ, ◌+◌, ◌<◌, ◌≤◌, Bool, List, [], ◌∷◌, ◌++◌, codes, drop, length, ℤ, pos}
 use Rattle.std.specs.List.{All}
 use Rattle.sfm_spec.specs.Blocks.{Block}
@@ -32,7 +33,8 @@ pub record TakesSome (text : List ℕ) (from to : Cursor) (IsGood : List ℕ →
   pub good : IsGood line
 
 -- the line that is next is none for which the fact holds, or there is none
-pub record IsStuck (text : List ℕ) (from : Cursor) (IsGood : List ℕ → Type 0) (number : ℕ) : Type 0 where
+pub record IsStuck (text : List ℕ) (from : Cursor) (IsGood : List ℕ → Type 0) (number : ℕ) : Type
+    0 where
   pub number_is : number ≡ from.line
   pub none : (line : List ℕ) → IsNextLine text from.at line → IsGood line → ⊥
 
@@ -45,10 +47,12 @@ EndsStuck text from IsGood Memory = Unit {0}
 -- lines one behind another lead on
 abbrev pub LeadsOnBy : {S : Type 0} → (S → List ℕ → S → Type 0) → S → List (List ℕ) → S → Type 0
 LeadsOnBy {S} rule from [] to = from ≡ to
-LeadsOnBy {S} rule from (line ∷ lines) to = (next : S) × rule from line next × LeadsOnBy rule next lines to
+LeadsOnBy {S} rule from (line ∷ lines) to = (next : S) × rule from line next
+    × LeadsOnBy rule next lines to
 
 -- lines are read, and lead on
-pub record ReadsBy {S : Type 0} (rule : S → List ℕ → S → Type 0) (text : List ℕ) (from to : Cursor) (due next : S) (lines : List (List ℕ)) : Type 0 where
+pub record ReadsBy {S : Type 0} (rule : S → List ℕ → S → Type 0) (text : List ℕ) (from to : Cursor)
+    (due next : S) (lines : List (List ℕ)) : Type 0 where
   pub are_lines : All IsLine lines
   pub within : to.at ≤ length text
   pub cut : drop from.at text ≡ text_of lines ++ drop to.at text
@@ -56,7 +60,8 @@ pub record ReadsBy {S : Type 0} (rule : S → List ℕ → S → Type 0) (text :
   pub leads : LeadsOnBy rule due lines next
 
 -- lines lead on to a line, of that number, that leads nowhere; or the text goes on behind its end
-pub record StopsBy {S : Type 0} (rule : S → List ℕ → S → Type 0) (ended : S) (text : List ℕ) (from : Cursor) (due : S) (number : ℕ) : Type 0 where
+pub record StopsBy {S : Type 0} (rule : S → List ℕ → S → Type 0) (ended : S) (text : List ℕ)
+    (from : Cursor) (due : S) (number : ℕ) : Type 0 where
   pub lines : List (List ℕ)
   pub to : Cursor
   pub next : S
@@ -65,7 +70,8 @@ pub record StopsBy {S : Type 0} (rule : S → List ℕ → S → Type 0) (ended 
   pub none : (line : List ℕ) (after : S) → IsNextLine text to.at line → rule next line after → ⊥
   pub left : next ≡ ended → to.at < length text
 
-abbrev pub EndsAtBy : {S : Type 0} → (S → List ℕ → S → Type 0) → S → List ℕ → Cursor → S → AnswerEnd → Type 0
+abbrev pub EndsAtBy : {S : Type 0} → (S → List ℕ → S → Type 0) → S → List ℕ → Cursor → S → AnswerEnd
+    → Type 0
 EndsAtBy {S} rule ended text from due (BadLine number) = StopsBy rule ended text from due number
 EndsAtBy {S} rule ended text from due Memory = Unit {0}
 
@@ -79,7 +85,8 @@ pub data State : Type 0 where
   greatest : State
   -- so many blocks were read, and these slopes
   listing : ℕ → List Ratio → State
-  -- the number of the next base and the widths of those that are due, and the slopes whose bases are due behind them
+  -- the number of the next base and the widths of those that are due, and the slopes whose bases
+  -- are due behind them
   bases : ℕ → List ℕ → List Ratio → State
   ended : State
 
@@ -87,14 +94,20 @@ pub data State : Type 0 where
 abbrev pub Leads : Form → State → List ℕ → State → Type 0
 Leads form header line next = (line ≡ form.header) × (next ≡ minimum)
 Leads form minimum line next = (v : ℤ) × IsMinimumLine line v × (next ≡ least)
-Leads form least line next = (s : List Bool) × IsSetLine (codes "least") form.names line s × (next ≡ greatest)
-Leads form greatest line next = (s : List Bool) × IsSetLine (codes "greatest") form.names line s × (next ≡ listing 0 [])
+Leads form least line next = (s : List Bool) × IsSetLine (codes "least") form.names line s
+    × (next ≡ greatest)
+Leads form greatest line next = (s : List Bool) × IsSetLine (codes "greatest") form.names line s
+    × (next ≡ listing 0 [])
 Leads form (listing k slopes) line next =
-    ((block : Block) × IsBlockLine form.names k line block × (slopes ≡ []) × (next ≡ listing (k + 1) []))
-    ⊎ ((r : Ratio) × (s : List Bool) × IsSlopeLine form.names line r s × (next ≡ listing k (slopes ++ r ∷ [])))
+    ((block : Block) × IsBlockLine form.names k line block × (slopes ≡ [])
+    × (next ≡ listing (k + 1) []))
+    ⊎ ((r : Ratio) × (s : List Bool) × IsSlopeLine form.names line r s
+    × (next ≡ listing k (slopes ++ r ∷ [])))
     ⊎ ((line ≡ at_line (pos 0) (pos 1)) × (next ≡ bases 1 form.widths slopes))
-Leads form (bases i (width ∷ widths) due) line next = (x : List ℤ) × IsBaseLine (label_in form.lines i) width line x × (next ≡ bases (i + 1) widths due)
-Leads form (bases i [] (r ∷ due)) line next = (line ≡ at_line r.num r.den) × (next ≡ bases 1 form.widths due)
+Leads form (bases i (width ∷ widths) due) line next = (x : List ℤ)
+    × IsBaseLine (label_in form.lines i) width line x × (next ≡ bases (i + 1) widths due)
+Leads form (bases i [] (r ∷ due)) line next = (line ≡ at_line r.num r.den)
+    × (next ≡ bases 1 form.widths due)
 Leads form (bases i [] []) line next = (line ≡ codes "end") × (next ≡ ended)
 Leads form ended line next = ⊥
 

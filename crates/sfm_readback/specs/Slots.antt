@@ -37,4 +37,5 @@ IsCleanSlot (row word label width) = IsLine word × IsLine label
 -- slots for rows, with the labels of terms, counted on from i, of lines with so many layers
 abbrev pub row_slots : List ℕ → List ℕ → ℕ → List ℕ → List Slot
 row_slots word lines i [] = []
-row_slots word lines i (width ∷ widths) = row word (label_in lines i) width ∷ row_slots word lines (i + 1) widths
+row_slots word lines i (width ∷ widths) = row word (label_in lines i) width ∷ row_slots word lines
+    (i + 1) widths

@@ -20,26 +20,33 @@ pub stays : (shelf : ShelfState) → IsAfter nothing_read shelf shelf
 stays shelf = record { kept = KeepsShelf-refl shelf; last = refl }
 
 -- memory ran out before anything was read
-pub stops_at_once : (task : Task) (shelf : ShelfState) → Along (StopsAt shelf shelf) shelf nothing_read task
+pub stops_at_once : (task : Task) (shelf : ShelfState)
+    → Along (StopsAt shelf shelf) shelf nothing_read task
 stops_at_once (ends Due) shelf = stays shelf
 stops_at_once (reads file rest) shelf = inl (inl (stays shelf))
 
 -- what a later shelf tells of a name is told of the first
-named_before : {names : List (List ℕ)} (shelf mid : ShelfState) (name text : List ℕ) → KeepsShelf names shelf mid → IsNamed mid name text → IsNamed shelf name text
+named_before : {names : List (List ℕ)} (shelf mid : ShelfState) (name text : List ℕ)
+    → KeepsShelf names shelf mid → IsNamed mid name text → IsNamed shelf name text
 named_before shelf mid name text kept named texts are = named texts (kept.texts ∙ are)
 
-held_later : {names : List (List ℕ)} (shelf mid : ShelfState) (name : List ℕ) → KeepsShelf names shelf mid → IsSurelyHeld shelf name → IsSurelyHeld mid name
-held_later shelf mid name kept (sound, texts, are, held) = (kept.sound sound, texts, kept.texts ∙ are, held)
+held_later : {names : List (List ℕ)} (shelf mid : ShelfState) (name : List ℕ)
+    → KeepsShelf names shelf mid → IsSurelyHeld shelf name → IsSurelyHeld mid name
+held_later shelf mid name kept (sound, texts, are, held) =
+    (kept.sound sound, texts, kept.texts ∙ are, held)
 
-missed_before : {names : List (List ℕ)} (shelf mid after : ShelfState) (name : List ℕ) → KeepsShelf names shelf mid → MissesText name mid after → MissesText name shelf after
+missed_before : {names : List (List ℕ)} (shelf mid after : ShelfState) (name : List ℕ)
+    → KeepsShelf names shelf mid → MissesText name mid after → MissesText name shelf after
 missed_before shelf mid after name kept miss = record {
   rose = rose_later shelf.faults mid.faults after.faults kept.faults miss.rose;
   unsure = λ held. miss.unsure (held_later shelf mid name kept held);
 }
 
-module _ {X : Type 0} (file : File X) (shelf mid after : ShelfState) (log : Log) (before : IsAfter log shelf mid) where
+module _ {X : Type 0} (file : File X) (shelf mid after : ShelfState) (log : Log)
+    (before : IsAfter log shelf mid) where
   -- one file more was read
-  one_more : {P : List ℕ → Type 0} (r : ReadsFile file mid after P) → IsAfter (and_file log file r.text) shelf after
+  one_more : {P : List ℕ → Type 0} (r : ReadsFile file mid after P)
+      → IsAfter (and_file log file r.text) shelf after
   one_more r = record {
     kept = KeepsShelf-trans log.names (file.name ∷ []) before.kept r.kept;
     last = λ texts are. r.read texts (before.kept.texts ∙ are);
@@ -49,53 +56,91 @@ module _ {X : Type 0} (file : File X) (shelf mid after : ShelfState) (log : Log)
   named r = named_before shelf mid file.name r.text before.kept r.named
 
 -- the file was not read
-pub misses : {V X : Type 0} (view : V → X) (file : File X) (rest : X → Task) (mid after : ShelfState) (status : Status)
+pub misses : {V X : Type 0} (view : V → X) (file : File X) (rest : X → Task)
+    (mid after : ShelfState) (status : Status)
     → OpensFile view file mid after (Err status) → Prepares (reads file rest) mid after (Err status)
 misses view file rest mid after status (kept, inl (fault, miss)) shelf log before =
     let m = missed_before shelf mid after file.name before.kept miss in
-    inl (fault, inl (m.rose, m.unsure, KeepsShelf-trans log.names (file.name ∷ []) before.kept kept))
-misses view file rest mid after status (kept, inr memory) shelf log before = inr (memory, inl (inr (KeepsShelf-trans log.names (file.name ∷ []) before.kept kept)))
+    inl (
+      fault,
+      inl (
+        m.rose,
+        m.unsure,
+        KeepsShelf-trans log.names (file.name ∷ []) before.kept kept,
+      ),
+    )
+misses view file rest mid after status (kept, inr memory) shelf log before =
+    inr (memory, inl (inr (KeepsShelf-trans log.names (file.name ∷ []) before.kept kept)))
 
 -- its text is not good
-pub refuses : {V X : Type 0} (view : V → X) (file : File X) (rest : X → Task) (mid after : ShelfState) (due : Due)
-    → OpensFile view file mid after (Ok (Faulty due)) → Prepares (reads file rest) mid after (Ok due)
+pub refuses : {V X : Type 0} (view : V → X) (file : File X) (rest : X → Task)
+    (mid after : ShelfState) (due : Due)
+    → OpensFile view file mid after (Ok (Faulty due))
+    → Prepares (reads file rest) mid after (Ok due)
 refuses view file rest mid after due (r, refused) shelf log before = (
-  inl (r.text, named file shelf mid after log before r, r.holds, ap code_of refused, one_more file shelf mid after log before r),
+  inl (
+    r.text,
+    named file shelf mid after log before r,
+    r.holds,
+    ap code_of refused,
+    one_more file shelf mid after log before r,
+  ),
   inr (inr refused),
 )
 
 -- its text is good, and what is prepared behind it
-pub behind : {X : Type 0} (file : File X) (rest : X → Task) (x : X) (mid after last : ShelfState) (result : Result Due Status)
-    → ReadsFile file mid after (λ text. file.Stands text x) → Prepares (rest x) after last result → Prepares (reads file rest) mid last result
-behind file rest x mid after last result r then shelf log before = at result (then shelf (and_file log file r.text) (one_more file shelf mid after log before r)) where
-  goes : (P : Log → Task → Type 0) → Along P shelf (and_file log file r.text) (rest x) → Along P shelf log (reads file rest)
-  goes P h = inr (r.text, x, named file shelf mid after log before r, r.holds, h)
+pub behind : {X : Type 0} (file : File X) (rest : X → Task) (x : X) (mid after last : ShelfState)
+    (result : Result Due Status)
+    → ReadsFile file mid after (λ text. file.Stands text x) → Prepares (rest x) after last result
+    → Prepares (reads file rest) mid last result
+behind file rest x mid after last result r then shelf log before =
+    at result (then shelf (and_file log file r.text)
+    (one_more file shelf mid after log before r)) where
+      goes : (P : Log → Task → Type 0) → Along P shelf (and_file log file r.text) (rest x)
+          → Along P shelf log (reads file rest)
+      goes P h = inr (r.text, x, named file shelf mid after log before r, r.holds, h)
 
-  at : (result : Result Due Status) → PreparesFrom shelf last (and_file log file r.text) (rest x) result → PreparesFrom shelf last log (reads file rest) result
-  at (Ok due) (h, answered) = (goes (IsDueAt shelf last due.text.items (code_of due.status)) h, answered)
-  at (Err status) (inl (fault, h)) = inl (fault, goes (FailsAt shelf last) h)
-  at (Err status) (inr (memory, h)) = inr (memory, goes (StopsAt shelf last) h)
+      at : (result : Result Due Status)
+          → PreparesFrom shelf last (and_file log file r.text) (rest x)
+          result → PreparesFrom shelf last log (reads file rest) result
+      at (Ok due) (h, answered) = (
+        goes (IsDueAt shelf last due.text.items (code_of due.status)) h,
+        answered,
+      )
+      at (Err status) (inl (fault, h)) = inl (fault, goes (FailsAt shelf last) h)
+      at (Err status) (inr (memory, h)) = inr (memory, goes (StopsAt shelf last) h)
 
-pub goes_on : {V X : Type 0} (view : V → X) (file : File X) (rest : X → Task) (v : V) (mid after last : ShelfState) (result : Result Due Status)
-    → OpensFile view file mid after (Ok (Good v)) → Prepares (rest (view v)) after last result → Prepares (reads file rest) mid last result
-goes_on view file rest v mid after last result r then = behind file rest (view v) mid after last result r then
+pub goes_on : {V X : Type 0} (view : V → X) (file : File X) (rest : X → Task) (v : V)
+    (mid after last : ShelfState) (result : Result Due Status)
+    → OpensFile view file mid after (Ok (Good v)) → Prepares (rest (view v)) after last result
+    → Prepares (reads file rest) mid last result
+goes_on view file rest v mid after last result r then =
+    behind file rest (view v) mid after last result r then
 
 -- a text was made without the shelf, or memory ran out
-pub made : (IsDue : List ℕ → ℕ → Type 0) (given : Result Due OutOfMemory) (result : Result Due Status) (mid : ShelfState) → IfOk given (IsMade IsDue) → PassesOn given result → Prepares (ends IsDue) mid mid result
+pub made : (IsDue : List ℕ → ℕ → Type 0) (given : Result Due OutOfMemory)
+    (result : Result Due Status) (mid : ShelfState) → IfOk given (IsMade IsDue)
+    → PassesOn given result → Prepares (ends IsDue) mid mid result
 made IsDue (Ok due) (Ok same) mid h is shelf log before = rw is ((h.owed, before), h.answered)
 made IsDue (Ok due) (Err status) mid h is shelf log before = inr (is, before)
 made IsDue (Err m) (Ok same) mid h is shelf log before = absurd is
 made IsDue (Err m) (Err status) mid h is shelf log before = inr (is, before)
 
 -- a shelf that surely holds what is needed fails nowhere
-pub no_failure : (task : Task) (log : Log) (shelf shelf' : ShelfState) → ((name : List ℕ) → Along (IsNext name) shelf log task → IsSurelyHeld shelf name) → Along (FailsAt shelf shelf') shelf log task → ⊥
+pub no_failure : (task : Task) (log : Log) (shelf shelf' : ShelfState)
+    → ((name : List ℕ) → Along (IsNext name) shelf log task → IsSurelyHeld shelf name)
+    → Along (FailsAt shelf shelf') shelf log task → ⊥
 no_failure (ends Due) log shelf shelf' held fails = fails
-no_failure (reads file rest) log shelf shelf' held (inl (rose, unsure, kept)) = unsure (held file.name (inl refl))
+no_failure (reads file rest) log shelf shelf' held (inl (rose, unsure, kept)) =
+    unsure (held file.name (inl refl))
 no_failure (reads file rest) log shelf shelf' held (inr (text, x, is, stands, fails)) =
-    no_failure (rest x) (and_file log file text) shelf shelf' (λ name needs. held name (inr (text, x, is, stands, needs))) fails
+    no_failure (rest x) (and_file log file text) shelf shelf'
+    (λ name needs. held name (inr (text, x, is, stands, needs))) fails
 
 -- where a file was missed a fault rose
-pub failure_rose : (task : Task) (log : Log) (shelf shelf' : ShelfState) → Along (FailsAt shelf shelf') shelf log task → Rose shelf.faults shelf'.faults
+pub failure_rose : (task : Task) (log : Log) (shelf shelf' : ShelfState)
+    → Along (FailsAt shelf shelf') shelf log task → Rose shelf.faults shelf'.faults
 failure_rose (ends Due) log shelf shelf' fails = absurd fails
 failure_rose (reads file rest) log shelf shelf' (inl (rose, unsure, kept)) = rose
-failure_rose (reads file rest) log shelf shelf' (inr (text, x, is, stands, fails)) = failure_rose (rest x) (and_file log file text) shelf shelf' fails
+failure_rose (reads file rest) log shelf shelf' (inr (text, x, is, stands, fails)) =
+    failure_rose (rest x) (and_file log file text) shelf shelf' fails

@@ -37,8 +37,10 @@ use Rattle.sfm_run.specs.Preparing.{IsClashing, IsFaulty, OpensFile, Prepares, T
 use Rattle.sfm_run.proofs.Joining.{behind, misses}
 
 -- a good instance
-pub opens : (name : List ℕ) (before after : ShelfState) (reader : Reader) (instance : InstanceData) → KeepsShelf (name ∷ []) before after → FeedsText name before after (Ok reader)
-    → ((text : List ℕ) → Stands reader text → IsTextOf text instance) → OpensFile question_of (main_file name) before after (Ok (Good instance))
+pub opens : (name : List ℕ) (before after : ShelfState) (reader : Reader) (instance : InstanceData)
+    → KeepsShelf (name ∷ []) before after → FeedsText name before after (Ok reader)
+    → ((text : List ℕ) → Stands reader text → IsTextOf text instance)
+    → OpensFile question_of (main_file name) before after (Ok (Good instance))
 opens name before after reader instance kept (text, stands, named, read) good = record {
   text = text;
   named = named;
@@ -48,30 +50,44 @@ opens name before after reader instance kept (text, stands, named, read) good = 
 }
 
 -- a text beside an instance that is too long
-pub opens_long : {D V X : Type 0} (view : V → X) (word : List ℕ) (form : SideForm D) (Says : D → X → Type 0) (name : List ℕ) (before after : ShelfState) (result : Result (Opened V) Status)
-    → KeepsShelf (name ∷ []) before after → ReadsText text_limit name before after (Ok None) → IsFaulty word 0 Long result → OpensFile view (side_file word form Says name) before after result
+pub opens_long : {D V X : Type 0} (view : V → X) (word : List ℕ) (form : SideForm D)
+    (Says : D → X → Type 0) (name : List ℕ) (before after : ShelfState)
+    (result : Result (Opened V) Status)
+    → KeepsShelf (name ∷ []) before after → ReadsText text_limit name before after (Ok None)
+    → IsFaulty word 0 Long result → OpensFile view (side_file word form Says name) before after
+    result
 opens_long view word form Says name before after (Ok (Good v)) kept fed is = absurd is
-opens_long view word form Says name before after (Ok (Faulty due)) kept (text, more, named, read) (is, refused) = (
-  record {
-    text = text;
-    named = named;
-    kept = kept;
-    read = read;
-    holds = record { line = 0; reason = Long; fault = is_long refl refl more; named = is };
-  },
-  refused,
-)
+opens_long view word form Says name before after (Ok (Faulty due)) kept (text, more, named, read)
+    (is, refused) = (
+      record {
+        text = text;
+        named = named;
+        kept = kept;
+        read = read;
+        holds = record { line = 0; reason = Long; fault = is_long refl refl more; named = is };
+      },
+      refused,
+    )
 opens_long view word form Says name before after (Err status) kept fed memory = (kept, inr memory)
 
 -- an answer was read, and what was then made
-pub answers : (name : List ℕ) (rest : List ℕ → Task) (mid after : ShelfState) (bytes : Option (Vec ℕ Global)) (result : Result Due Status) → KeepsShelf (name ∷ []) mid after → ReadsText answer_limit name mid after (Ok bytes)
-    → ((text : List ℕ) → IsReadAs answer_limit bytes text → Prepares (rest text) after after result) → Prepares (reads (answer_file name) rest) mid after result
+pub answers : (name : List ℕ) (rest : List ℕ → Task) (mid after : ShelfState)
+    (bytes : Option (Vec ℕ Global)) (result : Result Due Status) → KeepsShelf (name ∷ []) mid after
+    → ReadsText answer_limit name mid after (Ok bytes)
+    → ((text : List ℕ) → IsReadAs answer_limit bytes text → Prepares (rest text) after after result)
+    → Prepares (reads (answer_file name) rest) mid after result
 answers name rest mid after bytes result kept (text, is, named, read) then =
-    behind (answer_file name) rest text mid after after result (record { text = text; named = named; kept = kept; read = read; holds = refl }) (then text is)
+    behind (answer_file name) rest text mid after after result
+    (record { text = text; named = named; kept = kept; read = read; holds = refl })
+    (then text is)
 
 -- an answer was not read
-pub misses_answer : (name : List ℕ) (rest : List ℕ → Task) (mid after : ShelfState) (status : Status) → KeepsShelf (name ∷ []) mid after → ReadsText answer_limit name mid after (Err status) → Prepares (reads (answer_file name) rest) mid after (Err status)
-misses_answer name rest mid after status kept miss = misses (λ (text : List ℕ). text) (answer_file name) rest mid after status (kept, miss)
+pub misses_answer : (name : List ℕ) (rest : List ℕ → Task) (mid after : ShelfState)
+    (status : Status) → KeepsShelf (name ∷ []) mid after
+    → ReadsText answer_limit name mid after (Err status)
+    → Prepares (reads (answer_file name) rest) mid after (Err status)
+misses_answer name rest mid after status kept miss =
+    misses (λ (text : List ℕ). text) (answer_file name) rest mid after status (kept, miss)
 
 -- an instance of which the most level base is asked for
 pub opens_level : (name : List ℕ) (before after : ShelfState) (reader : Reader)
@@ -89,16 +105,23 @@ opens_level name before after reader (Err status) kept (text, stands, named, rea
     (kept, inr (told text stands))
 
 -- one whose sizes add to too much
-pub tells_too_large : (text : List ℕ) (instance : InstanceData) (ground : ℕ) (lines : List ℕ) (line : ℕ)
+pub tells_too_large : (text : List ℕ) (instance : InstanceData) (ground : ℕ) (lines : List ℕ)
+    (line : ℕ)
     (result : Result (Opened InstanceData) Status) → IsTextOf text instance
     → AreNumbersOf text ground instance.lines lines → PassesAt instance.terms lines line
     → IsFaulty (codes "refused") line Total result
     → Tells question_of (level_file []) text result
 tells_too_large text instance ground lines line (Ok (Good v)) good numbered passes is = absurd is
-tells_too_large text instance ground lines line (Ok (Faulty due)) good numbered passes (is, refused) = (
-  record { line = line; reason = Total; fault = inr (too-large text instance ground lines line good numbered passes, refl); named = is },
-  refused,
-)
+tells_too_large text instance ground lines line (Ok (Faulty due)) good numbered passes
+    (is, refused) = (
+      record {
+        line = line;
+        reason = Total;
+        fault = inr (too-large text instance ground lines line good numbered passes, refl);
+        named = is;
+      },
+      refused,
+    )
 tells_too_large text instance ground lines line (Err status) good numbered passes memory = memory
 
 -- one whose sizes do not
@@ -116,21 +139,29 @@ pub opens_level_faulty : (name : List ℕ) (before after : ShelfState) (reader :
     → IsFaulty (codes "refused") line reason result
     → OpensFile question_of (level_file name) before after result
 opens_level_faulty name before after reader line reason (Ok (Good v)) kept fed fault is = absurd is
-opens_level_faulty name before after reader line reason (Ok (Faulty due)) kept (text, stands, named, read) fault (is, refused) = (
-  record {
-    text = text;
-    named = named;
-    kept = kept;
-    read = read;
-    holds = record { line = line; reason = reason; fault = inl (fault text stands); named = is };
-  },
-  refused,
-)
-opens_level_faulty name before after reader line reason (Err status) kept fed fault memory = (kept, inr memory)
+opens_level_faulty name before after reader line reason (Ok (Faulty due)) kept
+    (text, stands, named, read) fault (is, refused) = (
+      record {
+        text = text;
+        named = named;
+        kept = kept;
+        read = read;
+        holds = record {
+          line = line;
+          reason = reason;
+          fault = inl (fault text stands);
+          named = is;
+        };
+      },
+      refused,
+    )
+opens_level_faulty name before after reader line reason (Err status) kept fed fault memory =
+    (kept, inr memory)
 
 -- a text of either side
 pub is_lined : (text : List ℕ) (side : Numbered) → IsTextOf text side.instance
-    → AreNumbersOf text side.ground_line side.instance.lines side.term_lines.items → IsLined text (lined_of side)
+    → AreNumbersOf text side.ground_line side.instance.lines side.term_lines.items
+    → IsLined text (lined_of side)
 is_lined text side good numbered = record {
   asked = record { good = good; means = kinds-mean side.instance.terms };
   numbered = numbered;
@@ -140,7 +171,8 @@ is_lined text side good numbered = record {
 pub opens_left : (name : List ℕ) (before after : ShelfState) (reader : Reader) (side : Numbered)
     → KeepsShelf (name ∷ []) before after → FeedsText name before after (Ok reader)
     → ((text : List ℕ) → Stands reader text → IsTextOf text side.instance)
-    → ((text : List ℕ) → Stands reader text → AreNumbersOf text side.ground_line side.instance.lines side.term_lines.items)
+    → ((text : List ℕ) → Stands reader text → AreNumbersOf text side.ground_line side.instance.lines
+    side.term_lines.items)
     → OpensFile lined_of (left_file name) before after (Ok (Good side))
 opens_left name before after reader side kept (text, stands, named, read) good numbered = record {
   text = text;
@@ -166,24 +198,33 @@ opens_right left name before after reader (Err status) kept (text, stands, named
     (kept, inr (told text stands))
 
 -- one with a fault
-pub opens_right_faulty : (left : Lined) (name : List ℕ) (before after : ShelfState) (reader : Reader)
+pub opens_right_faulty : (left : Lined) (name : List ℕ) (before after : ShelfState)
+    (reader : Reader)
     (line : ℕ) (reason : Reason) (result : Result (Opened Numbered) Status)
     → KeepsShelf (name ∷ []) before after → FeedsText name before after (Ok reader)
     → ((text : List ℕ) → Stands reader text → IsFaultOf text line reason)
     → IsFaulty (codes "right") line reason result
     → OpensFile lined_of (right_file left name) before after result
-opens_right_faulty left name before after reader line reason (Ok (Good v)) kept fed fault is = absurd is
-opens_right_faulty left name before after reader line reason (Ok (Faulty due)) kept (text, stands, named, read) fault (is, refused) = (
-  record {
-    text = text;
-    named = named;
-    kept = kept;
-    read = read;
-    holds = inl (record { line = line; reason = reason; fault = fault text stands; named = is });
-  },
-  refused,
-)
-opens_right_faulty left name before after reader line reason (Err status) kept fed fault memory = (kept, inr memory)
+opens_right_faulty left name before after reader line reason (Ok (Good v)) kept fed fault is =
+    absurd is
+opens_right_faulty left name before after reader line reason (Ok (Faulty due)) kept
+    (text, stands, named, read) fault (is, refused) = (
+      record {
+        text = text;
+        named = named;
+        kept = kept;
+        read = read;
+        holds = inl (record {
+          line = line;
+          reason = reason;
+          fault = fault text stands;
+          named = is;
+        });
+      },
+      refused,
+    )
+opens_right_faulty left name before after reader line reason (Err status) kept fed fault memory =
+    (kept, inr memory)
 
 -- one that does not go together with the left
 pub tells_clash : (left : Lined) (text : List ℕ) (right : Numbered) (clash : Clash) (line : ℕ)

@@ -18,13 +18,17 @@ use Rattle.sfm_run.specs.Task.{Along, FailsAt, File, IsAfter, IsDueAt, StopsAt, 
 
 -- what is due for a task behind what was read so far, or why nothing is
 abbrev pub PreparesFrom : (shelf shelf' : ShelfState) → Log → Task → Result Due Status → Type 0
-PreparesFrom shelf shelf' log task (Ok due) = Along (IsDueAt shelf shelf' due.text.items (code_of due.status)) shelf log task × IsAnswer due.status
-PreparesFrom shelf shelf' log task (Err status) = ((status ≡ ReadFault) × Along (FailsAt shelf shelf') shelf log task)
+PreparesFrom shelf shelf' log task (Ok due) =
+    Along (IsDueAt shelf shelf' due.text.items (code_of due.status)) shelf log task
+    × IsAnswer due.status
+PreparesFrom shelf shelf' log task (Err status) =
+    ((status ≡ ReadFault) × Along (FailsAt shelf shelf') shelf log task)
     ⊎ ((status ≡ Memory) × Along (StopsAt shelf shelf') shelf log task)
 
 -- the same, from one state of the shelf to another, whatever was read before
 abbrev pub Prepares : Task → (mid after : ShelfState) → Result Due Status → Type 0
-Prepares task mid after result = (shelf : ShelfState) (log : Log) → IsAfter log shelf mid → PreparesFrom shelf after log task result
+Prepares task mid after result = (shelf : ShelfState) (log : Log) → IsAfter log shelf mid
+    → PreparesFrom shelf after log task result
 
 -- what was made is passed on, or that memory ran out
 abbrev pub PassesOn : Result Due OutOfMemory → Result Due Status → Type 0
@@ -33,18 +37,24 @@ PassesOn (Err m) (Ok same) = ⊥
 PassesOn given (Err status) = status ≡ Memory
 
 -- the file was opened and read, and this holds of its text
-pub record ReadsFile {X : Type 0} (file : File X) (shelf shelf' : ShelfState) (P : List ℕ → Type 0) : Type 0 where
+pub record ReadsFile {X : Type 0} (file : File X) (shelf shelf' : ShelfState)
+    (P : List ℕ → Type 0) : Type 0 where
   pub text : List ℕ
   pub named : IsNamed shelf file.name text
   pub kept : KeepsShelf (file.name ∷ []) shelf shelf'
   pub read : WasRead shelf shelf' file.limit text
   pub holds : P text
 
--- what a good text stands for, or what is due for one that is not good, or why the file was not read
-abbrev pub OpensFile : {V X : Type 0} → (V → X) → File X → (shelf shelf' : ShelfState) → Result (Opened V) Status → Type 0
-OpensFile view file shelf shelf' (Ok (Good v)) = ReadsFile file shelf shelf' (λ text. file.Stands text (view v))
-OpensFile view file shelf shelf' (Ok (Faulty due)) = ReadsFile file shelf shelf' (λ text. file.Refuses text due.text.items) × (due.status ≡ Refused)
-OpensFile view file shelf shelf' (Err status) = KeepsShelf (file.name ∷ []) shelf shelf' × (((status ≡ ReadFault) × MissesText file.name shelf shelf') ⊎ (status ≡ Memory))
+-- what a good text stands for, or what is due for one that is not good, or why the file was not
+-- read
+abbrev pub OpensFile : {V X : Type 0} → (V → X) → File X → (shelf shelf' : ShelfState)
+    → Result (Opened V) Status → Type 0
+OpensFile view file shelf shelf' (Ok (Good v)) =
+    ReadsFile file shelf shelf' (λ text. file.Stands text (view v))
+OpensFile view file shelf shelf' (Ok (Faulty due)) =
+    ReadsFile file shelf shelf' (λ text. file.Refuses text due.text.items) × (due.status ≡ Refused)
+OpensFile view file shelf shelf' (Err status) = KeepsShelf (file.name ∷ []) shelf shelf'
+    × (((status ≡ ReadFault) × MissesText file.name shelf shelf') ⊎ (status ≡ Memory))
 
 -- where the text is good, this holds of what it stands for
 abbrev pub IfGood : {V : Type 0} → (V → Type 0) → Opened V → Type 0
@@ -54,13 +64,15 @@ IfGood P (Faulty due) = Unit {0}
 -- the refusal of a text, or that memory ran out
 abbrev pub IsFaulty : {V : Type 0} → List ℕ → ℕ → Reason → Result (Opened V) Status → Type 0
 IsFaulty word line reason (Ok (Good v)) = ⊥
-IsFaulty word line reason (Ok (Faulty due)) = (due.text.items ≡ refusal word line reason) × (due.status ≡ Refused)
+IsFaulty word line reason (Ok (Faulty due)) = (due.text.items ≡ refusal word line reason)
+    × (due.status ≡ Refused)
 IsFaulty word line reason (Err status) = status ≡ Memory
 
 -- the refusal of two texts that do not go together, or that memory ran out
 abbrev pub IsClashing : {V : Type 0} → Clash → ℕ → Result (Opened V) Status → Type 0
 IsClashing clash line (Ok (Good v)) = ⊥
-IsClashing clash line (Ok (Faulty due)) = (due.text.items ≡ clash_line clash line) × (due.status ≡ Refused)
+IsClashing clash line (Ok (Faulty due)) = (due.text.items ≡ clash_line clash line)
+    × (due.status ≡ Refused)
 IsClashing clash line (Err status) = status ≡ Memory
 
 -- what a text beside an instance stands for, or its refusal, or that memory ran out

@@ -1,5 +1,5 @@
--- What follows for each form from what a frame tells: which reason of a line is its first, what a good line leads to, and how
--- the reading of a whole text comes out.
+-- What follows for each form from what a frame tells: which reason of a line is its first, what a
+-- good line leads to, and how the reading of a whole text comes out.
 use Rattle.std.proofs.Common.{◌≡◌, inl, inr, ℕ, ◌<◌, ◌≤◌, List, [], ◌∷◌, ◌++◌, get_or, codes, refl, sym, ap, subst, ◌∙◌, append_assoc, arith}
 use Rattle.std.specs.Prelude.{Result, Ok, Err, IfErr}
 use Rattle.std.specs.Result.{IsErrAnd}
@@ -40,11 +40,18 @@ module _ {D : Type 0} (form : SideForm D) where
 
   header-first : (line : List ℕ) (reason : Reason) → IsHeaderReason form.word line reason
       → IsFirstOf (HasSide form header line) reason
-  header-first line Bytes bad = first_listed (HasSide form header line) Bytes bad (below (HasSide form header line) 1 (omega arith) (λ h. h) (λ lt. absurd (omega (arith, lt))) (λ lt. absurd (omega (arith, lt))))
-  header-first line Word (good, other) = first_listed (HasSide form header line) Word other (below (HasSide form header line) 2 (omega arith) (λ h. h) (λ lt h. good h) (λ lt. absurd (omega (arith, lt))))
+  header-first line Bytes bad = first_listed (HasSide form header line) Bytes bad
+      (below (HasSide form header line) 1 (omega arith) (λ h. h) (λ lt. absurd (omega (arith, lt)))
+      (λ lt. absurd (omega (arith, lt))))
+  header-first line Word (good, other) =
+      first_listed (HasSide form header line) Word other
+      (below (HasSide form header line) 2 (omega arith) (λ h. h) (λ lt h. good h)
+      (λ lt. absurd (omega (arith, lt))))
   header-first line Shape (rest, is, other) = first_listed (HasSide form header line) Shape
-      (λ e. let both : form.word ∷ rest ≡ form.word ∷ codes "1" ∷ [] = sym is.tokens_are ∙ e in let same : rest ≡ codes "1" ∷ [] = cc in other same)
-      (below (HasSide form header line) 3 (omega arith) (λ h. h) (λ lt h. is.good h) (λ lt h. h rest is.tokens_are))
+      (λ e. let both : form.word ∷ rest ≡ form.word ∷ codes "1" ∷ [] = sym is.tokens_are
+      ∙ e in let same : rest ≡ codes "1" ∷ [] = cc in other same)
+      (below (HasSide form header line) 3 (omega arith) (λ h. h) (λ lt h. is.good h)
+      (λ lt h. h rest is.tokens_are))
   header-first line _ h = absurd h
 
   header-good : (line : List ℕ) → IsLineWith line (form.word ∷ codes "1" ∷ []) → (reason : Reason)
@@ -62,16 +69,27 @@ module _ {D : Type 0} (form : SideForm D) where
 
   later-first : (d : D) (line : List ℕ) (reason : Reason) → IsLaterReason line reason
       → IsFirstOf (HasSide form (lines d) line) reason
-  later-first d line Bytes bad = first_listed (HasSide form (lines d) line) Bytes bad (below (HasSide form (lines d) line) 1 (omega arith) (λ h. h) (λ lt. absurd (omega (arith, lt))) (λ lt. absurd (omega (arith, lt))))
-  later-first d line Shape (rest, is, more) = first_listed (HasSide form (lines d) line) Shape
-      (λ e. let both : codes "end" ∷ rest ≡ codes "end" ∷ [] = sym is.tokens_are ∙ e in let none : rest ≡ [] = cc in more none, inl (rest, is.tokens_are))
-      (below (HasSide form (lines d) line) 3 (omega arith) (λ h. h) (λ lt h. is.good h) (λ lt h. h.0 rest is.tokens_are))
+  later-first d line Bytes bad =
+      first_listed (HasSide form (lines d) line) Bytes bad
+      (below (HasSide form (lines d) line) 1 (omega arith) (λ h. h)
+      (λ lt. absurd (omega (arith, lt))) (λ lt. absurd (omega (arith, lt))))
+  later-first d line Shape (rest, is, more) = first_listed (HasSide form (lines d) line) Shape (
+    λ e. let both : codes "end" ∷ rest ≡ codes "end" ∷ [] = sym is.tokens_are
+        ∙ e in let none : rest ≡ [] = cc in more none,
+    inl (rest, is.tokens_are),
+  )
+      (below (HasSide form (lines d) line) 3 (omega arith) (λ h. h) (λ lt h. is.good h)
+      (λ lt h. h.0 rest is.tokens_are))
   later-first d line _ h = absurd h
 
   past-first : (d : D) (line : List ℕ) (reason : Reason) → IsPastReason line reason
       → IsFirstOf (HasSide form (ended d) line) reason
-  past-first d line Bytes bad = first_listed (HasSide form (ended d) line) Bytes bad (below (HasSide form (ended d) line) 1 (omega arith) (λ h. h) (λ lt. absurd (omega (arith, lt))) (λ lt. absurd (omega (arith, lt))))
-  past-first d line Word good = first_listed (HasSide form (ended d) line) Word tt (below (HasSide form (ended d) line) 2 (omega arith) (λ h. h) (λ lt h. good h) (λ lt. absurd (omega (arith, lt))))
+  past-first d line Bytes bad = first_listed (HasSide form (ended d) line) Bytes bad
+      (below (HasSide form (ended d) line) 1 (omega arith) (λ h. h)
+      (λ lt. absurd (omega (arith, lt))) (λ lt. absurd (omega (arith, lt))))
+  past-first d line Word good = first_listed (HasSide form (ended d) line) Word tt
+      (below (HasSide form (ended d) line) 2 (omega arith) (λ h. h) (λ lt h. good h)
+      (λ lt. absurd (omega (arith, lt))))
   past-first d line _ h = absurd h
 
   module _ (framed : IsFramed form) where
@@ -121,13 +139,17 @@ module _ {D : Type 0} (form : SideForm D) where
           → IsFirstOf (HasSide form (lines d) line) reason
       inner-first reason h = record {
         holds = has-inner reason h.holds;
-        first = λ before behind e k x lt has. h.first before behind e k x lt (inner-has (get_or before k x) has);
+        first = λ before behind e k x lt has. h.first before behind e k x lt
+            (inner-has (get_or before k x) has);
       }
 
       -- F2: a line with none is taken
       inner-takes : (said : D) → ((reason : Reason) → form.HasIn d (tokens_of line) reason → ⊥)
           → form.Says d (tokens_of line) said → L.Takes (lines d) line (lines said)
-      inner-takes said none says = (λ reason h. none reason (inner-has reason h), inr (said, says, refl))
+      inner-takes said none says = (
+        λ reason h. none reason (inner-has reason h),
+        inr (said, says, refl),
+      )
 
   -- ---- whole texts
 
@@ -144,23 +166,26 @@ module _ {D : Type 0} (form : SideForm D) where
     open-faulty : (end : TextEnd) → IsOpenRefusal form.word text end → IsRefusalIn L text end
     open-faulty Memory h = absurd h
     open-faulty (Refused number reason) (is_too_long at why long) = is_long at why long
-    open-faulty (Refused number reason) (is_empty short none at why) = is_short at why short (header, rw none refl, λ (d, e). absurd (cc))
-    open-faulty (Refused number reason) (is_header short line after content why) = is_faulty short (record {
-      before = [];
-      line = line;
-      after = after;
-      state = header;
-      content = content;
-      good = refl;
-      fault = header-first line reason why;
-    })
+    open-faulty (Refused number reason) (is_empty short none at why) =
+        is_short at why short (header, rw none refl, λ (d, e). absurd (cc))
+    open-faulty (Refused number reason) (is_header short line after content why) =
+        is_faulty short (record {
+          before = [];
+          line = line;
+          after = after;
+          state = header;
+          content = content;
+          good = refl;
+          fault = header-first line reason why;
+        })
 
     pub open-refused : {A : Type 0} (result : Result A TextEnd) (end : TextEnd)
         → IsErrAnd result (λ e. e ≡ end) → IsOpenRefusal form.word text end
         → IfErr result (IsRefusalIn L text)
     open-refused result end is h = on-err (IsRefusalIn L text) result end is (open-faulty end h)
 
-    module _ (framed : IsFramed form) (left : List (ℕ × List ℕ)) (d : D) (read : IsReadTo form text left d) where
+    module _ (framed : IsFramed form) (left : List (ℕ × List ℕ)) (d : D)
+        (read : IsReadTo form text left d) where
       -- the next line has this fault
       next-faulty : (number : ℕ) (line : List ℕ) (after : List (ℕ × List ℕ)) (reason : Reason)
           → left ≡ (number, line) ∷ after → IsFirstOf (HasSide form (lines d) line) reason
@@ -178,19 +203,23 @@ module _ {D : Type 0} (form : SideForm D) where
       left-faulty : (number : ℕ) (reason : Reason) → IsLeftFault text left number reason
           → IsFaultIn L text number reason
       left-faulty number reason (is_none none at why) =
-          let all : content_of text ≡ read.done = read.content ∙ (ap (λ (l : List (ℕ × List ℕ)). read.done ++ l) none ∙ append-nil read.done) in
+          let all : content_of text ≡ read.done = read.content
+          ∙ (ap (λ (l : List (ℕ × List ℕ)). read.done ++ l) none ∙ append-nil read.done) in
           is_short at why read.short (lines d, rw all read.good, λ (e, same). absurd (cc))
       left-faulty number reason (is_next line after next why) =
           next-faulty number line after reason next (later-first d line reason why)
-      left-faulty number reason (is_past last line after next is why) = is_faulty read.short (record {
-        before = read.done ++ last ∷ [];
-        line = line;
-        after = after;
-        state = ended d;
-        content = read.content ∙ (ap (λ (l : List (ℕ × List ℕ)). read.done ++ l) next ∙ sym (append_assoc read.done (last ∷ []) ((number, line) ∷ after)));
-        good = lines-push L.Takes header read.done (lines d) last (ended d) read.good (end-takes framed d last.1 is);
-        fault = past-first d line reason why;
-      })
+      left-faulty number reason (is_past last line after next is why) =
+          is_faulty read.short (record {
+            before = read.done ++ last ∷ [];
+            line = line;
+            after = after;
+            state = ended d;
+            content = read.content ∙ (ap (λ (l : List (ℕ × List ℕ)). read.done ++ l) next
+                ∙ sym (append_assoc read.done (last ∷ []) ((number, line) ∷ after)));
+            good = lines-push L.Takes header read.done (lines d) last (ended d) read.good
+                (end-takes framed d last.1 is);
+            fault = past-first d line reason why;
+          })
 
       left-end : (whole : List ℕ) (end : TextEnd) → whole ≡ text
           → IsLeftRefusal whole left end → IsRefusalIn L text end
@@ -201,7 +230,8 @@ module _ {D : Type 0} (form : SideForm D) where
       pub left-refused : {A : Type 0} (result : Result A TextEnd) (end : TextEnd)
           → IsErrAnd result (λ e. e ≡ end) → (whole : List ℕ) → whole ≡ text
           → IsLeftRefusal whole left end → IfErr result (IsRefusalIn L text)
-      left-refused result end is whole same h = on-err (IsRefusalIn L text) result end is (left-end whole end same h)
+      left-refused result end is whole same h =
+          on-err (IsRefusalIn L text) result end is (left-end whole end same h)
 
       -- what the form refuses is refused
       pub line-refused : (number : ℕ) (line : List ℕ) (after : List (ℕ × List ℕ)) (reason : Reason)
@@ -218,15 +248,19 @@ module _ {D : Type 0} (form : SideForm D) where
       line-read number line after said next inner none says = record {
         short = read.short;
         done = read.done ++ (number, line) ∷ [];
-        content = read.content ∙ (ap (λ (l : List (ℕ × List ℕ)). read.done ++ l) next ∙ sym (append_assoc read.done ((number, line) ∷ []) after));
-        good = lines-push L.Takes header read.done (lines d) (number, line) (lines said) read.good (inner-takes framed d line inner said none says);
+        content = read.content ∙ (ap (λ (l : List (ℕ × List ℕ)). read.done ++ l) next
+            ∙ sym (append_assoc read.done ((number, line) ∷ []) after));
+        good = lines-push L.Takes header read.done (lines d) (number, line) (lines said) read.good
+            (inner-takes framed d line inner said none says);
       }
 
       -- F3: the end
       pub end-read : IsAtEnd left → IsReadAs L text (ended d)
       end-read (last, only, is) =
-          let all : content_of text ≡ read.done ++ last ∷ [] = read.content ∙ ap (λ (l : List (ℕ × List ℕ)). read.done ++ l) only in
+          let all : content_of text ≡ read.done ++ last ∷ [] = read.content
+          ∙ ap (λ (l : List (ℕ × List ℕ)). read.done ++ l) only in
           record {
             short = read.short;
-            lines = rw all (lines-push L.Takes header read.done (lines d) last (ended d) read.good (end-takes framed d last.1 is));
+            lines = rw all (lines-push L.Takes header read.done (lines d) last (ended d) read.good
+                (end-takes framed d last.1 is));
           }

@@ -1,4 +1,5 @@
--- The sizes that are known as the numbers that are kept: what a number that is put says, and what they count together.
+-- The sizes that are known as the numbers that are kept: what a number that is put says, and what
+-- they count together.
 use Rattle.std.proofs.Common.{◌≡◌, ◌≢◌, ◌⊎◌, inl, inr, ℕ, zero, suc, ◌+◌, ◌^◌, ◌<◌, Bool, true, false, cond, List, [], ◌∷◌, length, get_or, drop, map, set, slice_get, Option, Some, None, ℤ, pos, ◌+ℤ◌, ◌≤ℤ◌, ◌<ℤ◌, to_z, of_z, refl, ap, ◌∙◌, arith}
 use Rattle.std.specs.Prelude.{unwrap_or, option_map, replicate}
 use Rattle.std.specs.Int.{w128}
@@ -56,11 +57,15 @@ counts-drop kept i lt = rw (drop_more kept i (pos 0) lt) refl
 -- what is known of an element that was named, and of one that was not
 pub given-some : (kept : List ℤ) (e : ℕ) → e < length kept → pos 0 <ℤ get_or kept e (pos 0)
     → slice_get (given_of kept) e ≡ Some (Some (get_or kept e (pos 0)))
-given-some kept e lt much = slice_get-map size_at kept e ∙ (ap (option_map size_at) (slice_get-get_or kept e (pos 0) lt) ∙ ap Some (size-some (get_or kept e (pos 0)) (omega (arith, ints, much))))
+given-some kept e lt much = slice_get-map size_at kept e
+    ∙ (ap (option_map size_at) (slice_get-get_or kept e (pos 0) lt)
+    ∙ ap Some (size-some (get_or kept e (pos 0)) (omega (arith, ints, much))))
 
 pub given-none : (kept : List ℤ) (e : ℕ) → e < length kept → get_or kept e (pos 0) ≤ℤ pos 0
     → slice_get (given_of kept) e ≡ Some None
-given-none kept e lt none = slice_get-map size_at kept e ∙ (ap (option_map size_at) (slice_get-get_or kept e (pos 0) lt) ∙ ap Some (size-none (get_or kept e (pos 0)) none))
+given-none kept e lt none = slice_get-map size_at kept e
+    ∙ (ap (option_map size_at) (slice_get-get_or kept e (pos 0) lt)
+    ∙ ap Some (size-none (get_or kept e (pos 0)) none))
 
 -- a size as it is put
 pub size-kept : (text : List ℕ) (v : ℤ) → IsSize text v → to_z w128 (of_z w128 v) ≡ v
@@ -68,7 +73,8 @@ size-kept text v h = omega (arith, ints, h.1, h.2)
 
 pub set-given : (kept : List ℤ) (e : ℕ) (v w : ℤ) → w ≡ v → pos 1 ≤ℤ v
     → given_of (set kept e w) ≡ set (given_of kept) e (Some v)
-set-given kept e v w is low = ap (λ (z : ℤ). given_of (set kept e z)) is ∙ (map-set size_at kept e v ∙ ap (λ (o : Option ℤ). set (given_of kept) e o) (size-some v low))
+set-given kept e v w is low = ap (λ (z : ℤ). given_of (set kept e z)) is
+    ∙ (map-set size_at kept e v ∙ ap (λ (o : Option ℤ). set (given_of kept) e o) (size-some v low))
 
 pub set-kept : (n : ℕ) (kept : List ℤ) (e : ℕ) (v w : ℤ) → AreKept n kept → w ≡ v → pos 1 ≤ℤ v
     → v ≤ℤ pos (10 ^ 6) → AreKept n (set kept e w)
@@ -80,9 +86,11 @@ set-kept n kept e v w h is low high = record {
     at : (k : ℕ) (d : ℤ) → k < length kept → (k ≡ e) ⊎ (k ≢ e)
         → (pos 0 ≤ℤ get_or (set kept e w) k d) × (get_or (set kept e w) k d ≤ℤ pos (10 ^ 6))
     at k d lt (inl same) =
-        let there : get_or (set kept e w) k d ≡ w = ap (λ i. get_or (set kept e w) i d) same ∙ get_or-set_same kept e w d (omega (arith, lt, same)) in
+        let there : get_or (set kept e w) k d ≡ w = ap (λ i. get_or (set kept e w) i d) same
+        ∙ get_or-set_same kept e w d (omega (arith, lt, same)) in
         (omega (arith, ints, there, is, low), omega (arith, ints, there, is, high))
-    at k d lt (inr other) = let there = get_or-set_other kept e k w d other in let old = h.each k d lt in rw there old
+    at k d lt (inr other) = let there = get_or-set_other kept e k w d other in let old = h.each k d
+        lt in rw there old
 
 -- before the first line nothing is known
 pub none-given : (n : ℕ) → given_of (replicate n (pos 0)) ≡ replicate n None
@@ -94,7 +102,8 @@ none-kept n = record { places = length-replicate n (pos 0); each = each n }
   where
     each : (n : ℕ) → All (λ w. (pos 0 ≤ℤ w) × (w ≤ℤ pos (10 ^ 6))) (replicate n (pos 0))
     each zero = All-nil (λ w. (pos 0 ≤ℤ w) × (w ≤ℤ pos (10 ^ 6)))
-    each (suc n) = All-cons (λ w. (pos 0 ≤ℤ w) × (w ≤ℤ pos (10 ^ 6))) (pos 0) (replicate n (pos 0)) (omega (arith, ints), omega (arith, ints)) (each n)
+    each (suc n) = All-cons (λ w. (pos 0 ≤ℤ w) × (w ≤ℤ pos (10 ^ 6))) (pos 0) (replicate n (pos 0))
+        (omega (arith, ints), omega (arith, ints)) (each n)
 
 pub none-total : (n : ℕ) → total_of (map count_of (replicate n (pos 0))) ≡ pos n
 none-total zero = refl
@@ -111,4 +120,5 @@ counts-sizes n kept places small = record {
   where
     positive : (kept : List ℤ) → All (λ w. pos 1 ≤ℤ w) (map count_of kept)
     positive [] = All-nil (λ w. pos 1 ≤ℤ w)
-    positive (w ∷ kept) = All-cons (λ w. pos 1 ≤ℤ w) (count_of w) (map count_of kept) (count-low w) (positive kept)
+    positive (w ∷ kept) = All-cons (λ w. pos 1 ≤ℤ w) (count_of w) (map count_of kept) (count-low w)
+        (positive kept)

@@ -17,16 +17,20 @@ sizes-once names distinct = record { once = once; ends = ends } where
   once given tokens a b (p, (rest, e, line), h) (q, (rest', e', line'), g) =
       let both : codes "size" ∷ rest ≡ codes "size" ∷ rest' = sym e ∙ e' in
       let same : rest ≡ rest' = cc in
-      gives-same names distinct given p q a b (parts-same WeightWord rest' p q (rw same at line) line') h g
+      gives-same names distinct given p q a b
+      (parts-same WeightWord rest' p q (rw same at line) line') h g
 
   ends : (given a : List (Option ℤ))
       → HasSizeLine (codes "end" ∷ []) (λ parts. GivesSizes names given parts a) → ⊥
-  ends given a (p, (rest, e, line), h) = let word : codes "end" ≡ codes "size" = cc in omega (arith, ap length word)
+  ends given a (p, (rest, e, line), h) =
+      let word : codes "end" ≡ codes "size" = cc in omega (arith, ap length word)
 
 -- a set with the elements of names besides is one
 with-same : (names texts : List (List ℕ)) (s t u : List Bool) → IsWithNames names texts s t
     → IsWithNames names texts s u → t ≡ u
-with-same names texts s t u h g = same_sets t u (h.places ∙ sym g.places) (λ e l has. (g.exact e).1 ((h.exact e).0 has)) (λ e l has. (h.exact e).1 ((g.exact e).0 has))
+with-same names texts s t u h g =
+    same_sets t u (h.places ∙ sym g.places) (λ e l has. (g.exact e).1 ((h.exact e).0 has))
+    (λ e l has. (h.exact e).1 ((g.exact e).0 has))
 
 abbrev pins : (inside outside : List Bool) → PinData
 pins inside outside = record { inside = inside; outside = outside }
@@ -38,7 +42,8 @@ pub pins-once : (names : List (List ℕ)) → IsSaidOnce (pins_form names)
 pins-once names = record { once = once; ends = ends } where
   rest-same : (word : List ℕ) (tokens texts texts' : List (List ℕ)) → tokens ≡ word ∷ texts
       → tokens ≡ word ∷ texts' → texts' ≡ texts
-  rest-same word tokens texts texts' e e' = let both : word ∷ texts ≡ word ∷ texts' = sym e ∙ e' in cc
+  rest-same word tokens texts texts' e e' = let both : word ∷ texts ≡ word ∷ texts' = sym e
+      ∙ e' in cc
 
   words : (tokens texts texts' : List (List ℕ)) → tokens ≡ codes "in" ∷ texts
       → tokens ≡ codes "out" ∷ texts' → ⊥
@@ -49,17 +54,25 @@ pins-once names = record { once = once; ends = ends } where
 
   once : (p : PinData) (tokens : List (List ℕ)) (a b : PinData) → Pins names p tokens a
       → Pins names p tokens b → a ≡ b
-  once p tokens a b (texts, inl ((e, some, unmarked), h, same)) (texts', inl ((e', some', unmarked'), g, same')) =
+  once p tokens a b (texts, inl ((e, some, unmarked), h, same))
+      (texts', inl ((e', some', unmarked'), g, same')) =
       let one : texts' ≡ texts = rest-same (codes "in") tokens texts texts' e e' in
-      let inside : a.inside ≡ b.inside = with-same names texts p.inside a.inside b.inside h (rw one at g) in
+      let inside : a.inside ≡ b.inside = with-same names texts p.inside a.inside b.inside h
+      (rw one at g) in
       same-pins a b inside (same ∙ sym same')
-  once p tokens a b (texts, inr ((e, some, unmarked), h, same)) (texts', inr ((e', some', unmarked'), g, same')) =
+  once p tokens a b (texts, inr ((e, some, unmarked), h, same))
+      (texts', inr ((e', some', unmarked'), g, same')) =
       let one : texts' ≡ texts = rest-same (codes "out") tokens texts texts' e e' in
-      let outside : a.outside ≡ b.outside = with-same names texts p.outside a.outside b.outside h (rw one at g) in
+      let outside : a.outside ≡ b.outside = with-same names texts p.outside a.outside b.outside h
+      (rw one at g) in
       same-pins a b (same ∙ sym same') outside
-  once p tokens a b (texts, inl ((e, some, unmarked), h, same)) (texts', inr ((e', some', unmarked'), g, same')) = absurd (words tokens texts texts' e e')
-  once p tokens a b (texts, inr ((e, some, unmarked), h, same)) (texts', inl ((e', some', unmarked'), g, same')) = absurd (words tokens texts' texts e' e)
+  once p tokens a b (texts, inl ((e, some, unmarked), h, same))
+      (texts', inr ((e', some', unmarked'), g, same')) = absurd (words tokens texts texts' e e')
+  once p tokens a b (texts, inr ((e, some, unmarked), h, same))
+      (texts', inl ((e', some', unmarked'), g, same')) = absurd (words tokens texts' texts e' e)
 
   ends : (p a : PinData) → Pins names p (codes "end" ∷ []) a → ⊥
-  ends p a (texts, inl ((e, some, unmarked), h, same)) = let word : codes "end" ≡ codes "in" = cc in omega (arith, ap length word)
-  ends p a (texts, inr ((e, some, unmarked), h, same)) = let none : [] ≡ texts = cc in some (sym none)
+  ends p a (texts, inl ((e, some, unmarked), h, same)) =
+      let word : codes "end" ≡ codes "in" = cc in omega (arith, ap length word)
+  ends p a (texts, inr ((e, some, unmarked), h, same)) =
+      let none : [] ≡ texts = cc in some (sym none)

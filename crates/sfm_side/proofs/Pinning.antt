@@ -27,9 +27,11 @@ put-stays s e d lt h = at (same-or-other e d)
 
 -- a name among the texts is that of an element that is in a set
 abbrev pub IsIn : (names : List (List ℕ)) (to other : List Bool) (texts : List (List ℕ)) → Type 0
-IsIn names to other texts = Any (λ text. (e : ℕ) × (slice_get names e ≡ Some text) × (Has to e ⊎ Has other e)) texts
+IsIn names to other texts = Any
+    (λ text. (e : ℕ) × (slice_get names e ≡ Some text) × (Has to e ⊎ Has other e)) texts
 
-module _ (names : List (List ℕ)) (distinct : AllPairs (λ a b. a ≢ b) names) (other : List Bool) where
+module _ (names : List (List ℕ)) (distinct : AllPairs (λ a b. a ≢ b) names)
+    (other : List Bool) where
   grown : (to : List Bool) (e : ℕ) → length to ≡ length names
       → length (set to e true) ≡ length names
   grown to e n = length-set to e true ∙ n
@@ -61,22 +63,29 @@ module _ (names : List (List ℕ)) (distinct : AllPairs (λ a b. a ≢ b) names)
     where
       forth : (e : ℕ) → Has (set to f true) e ⊎ ((text : List ℕ) ×
           (slice_get names e ≡ Some text) × Contains texts text)
-          → Has to e ⊎ ((text : List ℕ) × (slice_get names e ≡ Some text) × Contains (name ∷ texts) text)
+          → Has to e ⊎ ((text : List ℕ) × (slice_get names e ≡ Some text)
+          × Contains (name ∷ texts) text)
       forth e (inr (text, is, (k, lt, here))) = inr (text, is, (suc k, omega (arith, lt), here))
       forth e (inl h) = at (same-or-other f e)
         where
           at : (e ≡ f) ⊎ (e ≢ f) → Has to e ⊎ ((text : List ℕ) ×
               (slice_get names e ≡ Some text) × Contains (name ∷ texts) text)
-          at (inl same) = inr (name, ap (λ i. slice_get names i) same ∙ of, (zero, omega arith, refl))
+          at (inl same) = inr (
+            name,
+            ap (λ i. slice_get names i) same ∙ of,
+            (zero, omega arith, refl),
+          )
           at (inr apart) = inl (put-other to f e apart h)
 
       back : (e : ℕ) → Has to e ⊎ ((text : List ℕ) ×
           (slice_get names e ≡ Some text) × Contains (name ∷ texts) text)
-          → Has (set to f true) e ⊎ ((text : List ℕ) × (slice_get names e ≡ Some text) × Contains texts text)
+          → Has (set to f true) e ⊎ ((text : List ℕ) × (slice_get names e ≡ Some text)
+          × Contains texts text)
       back e (inl h) = inl (put-stays to f e (within to f name n of) h)
       back e (inr (text, is, (zero, lt, here))) =
           let same : e ≡ f = place-same names distinct name e f (is ∙ ap Some (sym here)) of in
-          inl (ap (λ i. get_or (set to f true) i false) same ∙ put-here to f (within to f name n of))
+          inl (ap (λ i. get_or (set to f true) i false) same
+          ∙ put-here to f (within to f name n of))
       back e (inr (text, is, (suc k, lt, here))) = inr (text, is, (k, omega (arith, lt), here))
 
   -- none of them was in a set
@@ -84,7 +93,8 @@ module _ (names : List (List ℕ)) (distinct : AllPairs (λ a b. a ≢ b) names)
       → length to ≡ length names → PutsNames names to other texts after → IsIn names to other texts
       → ⊥
   puts-fresh to [] after n puts (k, text, lt, at, more) = omega (arith, lt)
-  puts-fresh to (name ∷ texts) after n (f, of, new, apart, more) (zero, text, lt, at, (e, is, h)) = why h
+  puts-fresh to (name ∷ texts) after n (f, of, new, apart, more) (zero, text, lt, at, (e, is, h)) =
+      why h
     where
       same : e ≡ f
       same = place-same names distinct name e f (is ∙ ap Some (sym at)) of
@@ -93,7 +103,8 @@ module _ (names : List (List ℕ)) (distinct : AllPairs (λ a b. a ≢ b) names)
       why (inl h) = new (ap (λ i. get_or to i false) (sym same) ∙ h)
       why (inr h) = apart (ap (λ i. get_or other i false) (sym same) ∙ h)
   puts-fresh to (name ∷ texts) after n (f, of, new, apart, more) (suc k, text, lt, at, (e, is, h)) =
-      puts-fresh (set to f true) texts after (grown to f n) more (k, text, omega (arith, lt), at, (e, is, stays h))
+      puts-fresh (set to f true) texts after (grown to f n) more
+      (k, text, omega (arith, lt), at, (e, is, stays h))
     where
       stays : Has to e ⊎ Has other e → Has (set to f true) e ⊎ Has other e
       stays (inl h) = inl (put-stays to f e (within to f name n of) h)
@@ -103,18 +114,22 @@ module _ (names : List (List ℕ)) (distinct : AllPairs (λ a b. a ≢ b) names)
   pub puts-single : (to : List Bool) (texts : List (List ℕ)) (after : List Bool)
       → length to ≡ length names → PutsNames names to other texts after → StandsTwice texts → ⊥
   puts-single to [] after n puts (i, j, lt, inside, same) = omega (arith, inside)
-  puts-single to (name ∷ texts) after n (f, of, new, apart, more) twice = at (puts-single (set to f true) texts after (grown to f n) more) (twice-cons name texts twice)
+  puts-single to (name ∷ texts) after n (f, of, new, apart, more) twice =
+      at (puts-single (set to f true) texts after (grown to f n) more) (twice-cons name texts twice)
     where
       at : (StandsTwice texts → ⊥) → Contains texts name ⊎ StandsTwice texts → ⊥
-      at once (inl (k, lt, here)) = puts-fresh (set to f true) texts after (grown to f n) more (k, name, lt, here, (f, of, inl (put-here to f (within to f name n of))))
+      at once (inl (k, lt, here)) = puts-fresh (set to f true) texts after (grown to f n) more
+          (k, name, lt, here, (f, of, inl (put-here to f (within to f name n of))))
       at once (inr again) = once again
 
   -- names of which one is of an element that is in a set: it was, or it stands twice
   pub again-parts : (to : List Bool) (texts : List (List ℕ)) → PutsAgain names to other texts
       → StandsTwice texts ⊎ IsIn names to other texts
   again-parts to [] puts = absurd puts
-  again-parts to (name ∷ texts) (f, of, inl there) = inr (zero, name, omega arith, refl, (f, of, there))
-  again-parts to (name ∷ texts) (f, of, inr (new, apart, more)) = at (again-parts (set to f true) texts more)
+  again-parts to (name ∷ texts) (f, of, inl there) =
+      inr (zero, name, omega arith, refl, (f, of, there))
+  again-parts to (name ∷ texts) (f, of, inr (new, apart, more)) =
+      at (again-parts (set to f true) texts more)
     where
       at : StandsTwice texts ⊎ IsIn names (set to f true) other texts
           → StandsTwice (name ∷ texts) ⊎ IsIn names to other (name ∷ texts)
@@ -124,9 +139,17 @@ module _ (names : List (List ℕ)) (distinct : AllPairs (λ a b. a ≢ b) names)
           place : Has (set to f true) e → (e ≡ f) ⊎ (e ≢ f)
               → StandsTwice (name ∷ texts) ⊎ IsIn names to other (name ∷ texts)
           place h (inl same) =
-              let one : text ≡ name = same_Some text name (sym is ∙ (ap (λ i. slice_get names i) same ∙ of)) in
-              inl (twice-at (name ∷ texts) zero (suc k) text (omega arith) (omega (arith, lt)) (sym one ∙ sym here))
-          place h (inr apart) = inr (suc k, text, omega (arith, lt), here, (e, is, inl (put-other to f e apart h)))
+              let one : text ≡ name = same_Some text name
+              (sym is ∙ (ap (λ i. slice_get names i) same ∙ of)) in
+              inl (twice-at (name ∷ texts) zero (suc k) text (omega arith) (omega (arith, lt))
+              (sym one ∙ sym here))
+          place h (inr apart) = inr (
+            suc k,
+            text,
+            omega (arith, lt),
+            here,
+            (e, is, inl (put-other to f e apart h)),
+          )
 
           why : Has (set to f true) e ⊎ Has other e
               → StandsTwice (name ∷ texts) ⊎ IsIn names to other (name ∷ texts)

@@ -1,5 +1,5 @@
--- What a frame tells of the lines of a side text: which line opens it, which line of the form comes next, where it ends,
--- and the faults that every form has in common.
+-- What a frame tells of the lines of a side text: which line opens it, which line of the form comes
+-- next, where it ends, and the faults that every form has in common.
 use Rattle.std.specs.Prelude.{◌≡◌, ◌≢◌, ℕ, ◌+◌, ◌<◌, ◌≤◌, List, [], ◌∷◌, ◌++◌, length, map, Any, codes, Option, MatchOption}
 use Rattle.std.specs.List.{FoldsTo}
 use Rattle.sfm_lines.specs.declared.reason.Reason.{Reason}
@@ -89,8 +89,8 @@ abbrev pub IsOpenRefusal : List ℕ → List ℕ → TextEnd → Type 0
 IsOpenRefusal word text (Refused number reason) = IsOpenFault word text number reason
 IsOpenRefusal word text Memory = ⊥
 
--- why every form refuses what is left of a text where one of its lines or the end is due: there is no line, or the next
--- one has a reason, or it is the end and a line stands behind it
+-- why every form refuses what is left of a text where one of its lines or the end is due: there is
+-- no line, or the next one has a reason, or it is the end and a line stands behind it
 pub data IsLeftFault (text : List ℕ) (left : List (ℕ × List ℕ)) (number : ℕ) (reason : Reason)
     : Type 0 where
   is_none : left ≡ [] → number ≡ length (lines_of text) + 1 → reason ≡ Short
@@ -111,7 +111,8 @@ IsAtEnd left = (last : ℕ × List ℕ) × (left ≡ last ∷ []) × IsLineWith 
 
 -- ---- what a loop over the lines of a form knows
 
--- what the frame asks of a form: it does not tell what the frame tells, and the end has no reason behind its shape
+-- what the frame asks of a form: it does not tell what the frame tells, and the end has no reason
+-- behind its shape
 pub record IsFramed {D : Type 0} (form : SideForm D) : Type 0 where
   pub plain : (d : D) (tokens : List (List ℕ)) (reason : Reason) → form.HasIn d tokens reason
       → (reason ≢ Long) × (reason ≢ Bytes) × (reason ≢ Short)

@@ -1,5 +1,5 @@
--- The text of sizes as it is read: the sizes that are known are kept as numbers, one for each element, 0 where it was not
--- named; and the pairs of a line are put one after another.
+-- The text of sizes as it is read: the sizes that are known are kept as numbers, one for each
+-- element, 0 where it was not named; and the pairs of a line are put one after another.
 use Rattle.std.specs.Prelude.{◌≡◌, ◌⊎◌, ℕ, ◌≤◌, ◌^◌, if◌then◌else◌, List, [], ◌∷◌, length, map, codes, set, slice_get, Option, Some, None, unwrap_or, MatchOption, ℤ, pos, ◌≤ℤ◌}
 use Rattle.std.specs.Int.Signed.{le_z}
 use Rattle.std.specs.List.{All}

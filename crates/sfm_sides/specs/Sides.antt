@@ -1,5 +1,5 @@
--- What a term of either side is, and the laws that its calls rest on: on the left those of a kind, on the right those of a kind
--- turned round.
+-- What a term of either side is, and the laws that its calls rest on: on the left those of a kind,
+-- on the right those of a kind turned round.
 use Rattle.std.specs.Prelude.{◌≡◌, ℕ, Bool, List, length, ℤ, pos, neg_ℤ, ◌*ℤ◌, ◌≤ℤ◌, Some, map}
 use Rattle.std.specs.List.{All}
 use Rattle.sfm_spec.specs.Terms.{SetFunction, times, IsFamily, IsSubmodular, IsBase}
@@ -54,21 +54,25 @@ pub side-submodular : (side : Side) → IsSubmodular (length (side_places side))
 side-submodular (Left kind) = kind-submodular kind
 side-submodular (Right kind) = flip-submodular kind
 
-pub side-bounded : (side : Side) (s : List Bool) (a : ℤ) → length s ≡ length (side_places side) → side_value side s ≡ Some a
+pub side-bounded : (side : Side) (s : List Bool) (a : ℤ) → length s ≡ length (side_places side)
+    → side_value side s ≡ Some a
     → (neg_ℤ (side_size side) ≤ℤ a) × (a ≤ℤ side_size side)
 side-bounded (Left kind) = kind-bounded kind
 side-bounded (Right kind) = flip-bounded kind
 
 pub side-starts : (side : Side) (q : ℤ) → pos 1 ≤ℤ q
-    → (length (side_start side q) ≡ length (side_places side)) × IsBase (times q (side_value side)) (side_start side q)
+    → (length (side_start side q) ≡ length (side_places side))
+    × IsBase (times q (side_value side)) (side_start side q)
 side-starts (Left kind) = kind-starts kind
 side-starts (Right kind) = flip-starts kind
 
 pub side-starts_small : (side : Side) (q : ℤ) → pos 1 ≤ℤ q
-    → All (λ a. (neg_ℤ ((pos 2 *ℤ q) *ℤ side_size side) ≤ℤ a) × (a ≤ℤ ((pos 2 *ℤ q) *ℤ side_size side))) (side_start side q)
+    → All (λ a. (neg_ℤ ((pos 2 *ℤ q) *ℤ side_size side) ≤ℤ a)
+    × (a ≤ℤ ((pos 2 *ℤ q) *ℤ side_size side))) (side_start side q)
 side-starts_small (Left kind) = kind-starts_small kind
 side-starts_small (Right kind) = flip-starts_small kind
 
-pub side-starts_times : (side : Side) (q : ℤ) → side_start side q ≡ map (λ a. q *ℤ a) (side_start side (pos 1))
+pub side-starts_times : (side : Side) (q : ℤ)
+    → side_start side q ≡ map (λ a. q *ℤ a) (side_start side (pos 1))
 side-starts_times (Left kind) q = kind-starts_times kind q
 side-starts_times (Right kind) q = flip-starts_times kind q

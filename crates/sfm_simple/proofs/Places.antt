@@ -8,7 +8,8 @@ binary_below k s same = rw (← same) (binary-lt s)
 
 module _ (k n a : ℕ) (h : n < 2 ^ k) (lt : a < k) (out : get_or (members k n) a false ≡ false) where
   with_place : binary (set (members k n) a true) ≡ n + 2 ^ a
-  with_place = binary-set (members k n) a (omega (arith, length-members k n, lt)) out ∙ ap (λ z. z + 2 ^ a) (binary-members k n h)
+  with_place = binary-set (members k n) a (omega (arith, length-members k n, lt)) out
+      ∙ ap (λ z. z + 2 ^ a) (binary-members k n h)
 
   sized : length (set (members k n) a true) ≡ k
   sized = length-set (members k n) a true ∙ length-members k n

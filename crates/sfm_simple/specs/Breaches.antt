@@ -9,7 +9,8 @@ listed_at values s = slice_index_or values (binary s) (pos 0)
 
 -- s with a and s with b have less in all than s with both and s
 abbrev pub GainsMore : List ℤ → List Bool → ℕ → ℕ → Type 0
-GainsMore values s a b = (listed_at values (set s a true) +ℤ listed_at values (set s b true)) <ℤ (listed_at values (set (set s a true) b true) +ℤ listed_at values s)
+GainsMore values s a b = (listed_at values (set s a true) +ℤ listed_at values (set s b true))
+    <ℤ (listed_at values (set (set s a true) b true) +ℤ listed_at values s)
 
 -- the set with the number n, and the places a and b outside it, break the law
 pub record BreaksLaw (values : List ℤ) (k n a b : ℕ) : Type 0 where

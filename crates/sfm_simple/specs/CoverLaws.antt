@@ -38,7 +38,9 @@ sum_over-none : (s : List Bool) (x : List ℤ) → size s ≡ 0 → sum_over s x
 sum_over-none [] x h = refl
 sum_over-none (b ∷ s) [] h = refl
 sum_over-none (true ∷ s) (y ∷ x) h = let c = size-cons true s in absurd (omega (arith, c))
-sum_over-none (false ∷ s) (y ∷ x) h = let c = size-cons false s in let r = sum_over-none s x (omega (arith, c)) in omega (arith, ints, r)
+sum_over-none (false ∷ s) (y ∷ x) h =
+    let c = size-cons false s in let r = sum_over-none s x
+    (omega (arith, c)) in omega (arith, ints, r)
 
 -- ---- the value
 
@@ -48,7 +50,8 @@ covered w s = if nat_eq (size s) 0 then pos 0 else w
 
 covered-some : (w : ℤ) (s : List Bool) (e : ℕ) → Has s e → covered w s ≡ w
 unfolding covered
-covered-some w s e h = let low = size-low s e h in rw (ne_eqb (size s) 0 (λ z. absurd (omega (arith, low, z)))) refl
+covered-some w s e h = let low = size-low s e
+    h in rw (ne_eqb (size s) 0 (λ z. absurd (omega (arith, low, z)))) refl
 
 covered-none : (w : ℤ) (s : List Bool) → size s ≡ 0 → covered w s ≡ pos 0
 unfolding covered
@@ -65,22 +68,34 @@ covered-bounds w s low = ⊎_elim
     (cases_eq (size s) 0)
 
 pub cover-family : {k : ℕ} (w : ℤ) → IsFamily k (cover_value w)
-cover-family w = record { empty = refl; whole = refl; unions = λ s t h g a b. refl; intersections = λ s t h g a b. refl }
+cover-family w = record {
+  empty = refl;
+  whole = refl;
+  unions = λ s t h g a b. refl;
+  intersections = λ s t h g a b. refl;
+}
 
 pub cover-submodular : (k : ℕ) (w : ℤ) → pos 0 ≤ℤ w → IsSubmodular k (cover_value w)
 unfolding covered
-cover-submodular k w low = local_law k (covered w) (covered-none w (empty_set k) (size-empty k)) (record { pairs = pairs }) where
-  pairs : (s : List Bool) (a b : ℕ) → length s ≡ k → a < b → b < k → get_or s a false ≡ false → get_or s b false ≡ false
-      → (covered w (set (set s a true) b true) +ℤ covered w s) ≤ℤ (covered w (set s a true) +ℤ covered w (set s b true))
-  pairs s a b ks lt in_range out out' =
-      let len = length-set s a true in
-      let both = covered-some w (set (set s a true) b true) b (get_or-set_same (set s a true) b true false (omega (arith, len))) in
-      let one = covered-some w (set s a true) a (get_or-set_same s a true false (omega arith)) in
-      let other = covered-some w (set s b true) b (get_or-set_same s b true false (omega arith)) in
-      let high = covered-bounds w s low in
-      omega (arith, ints, both, one, other, high.1)
+cover-submodular k w low = local_law k (covered w) (covered-none w (empty_set k) (size-empty k))
+    (record { pairs = pairs }) where
+      pairs : (s : List Bool) (a b : ℕ) → length s ≡ k → a < b → b < k → get_or s a false ≡ false
+          → get_or s b false ≡ false
+          → (covered w (set (set s a true) b true) +ℤ covered w s)
+          ≤ℤ (covered w (set s a true) +ℤ covered w (set s b true))
+      pairs s a b ks lt in_range out out' =
+          let len = length-set s a true in
+          let both = covered-some w (set (set s a true) b true) b
+          (get_or-set_same (set s a true) b true false (omega (arith, len))) in
+          let one = covered-some w (set s a true) a
+          (get_or-set_same s a true false (omega arith)) in
+          let other = covered-some w (set s b true) b
+          (get_or-set_same s b true false (omega arith)) in
+          let high = covered-bounds w s low in
+          omega (arith, ints, both, one, other, high.1)
 
-pub cover-bounded : (w : ℤ) (s : List Bool) (a : ℤ) → pos 0 ≤ℤ w → cover_value w s ≡ Some a → (neg_ℤ w ≤ℤ a) × (a ≤ℤ w)
+pub cover-bounded : (w : ℤ) (s : List Bool) (a : ℤ) → pos 0 ≤ℤ w → cover_value w s ≡ Some a
+    → (neg_ℤ w ≤ℤ a) × (a ≤ℤ w)
 unfolding covered
 cover-bounded w s a low e =
     let f : covered w s ≡ a = cc in
@@ -89,7 +104,8 @@ cover-bounded w s a low e =
 
 -- ---- the bases
 
-pub cover_base : (q w : ℤ) (x : List ℤ) → 0 < length x → IsCoverBase q w x → IsBase (times q (cover_value w)) x
+pub cover_base : (q w : ℤ) (x : List ℤ) → 0 < length x → IsCoverBase q w x
+    → IsBase (times q (cover_value w)) x
 unfolding covered
 cover_base q w x some h = record { within = within; total = total } where
   at_some : (s : List Bool) (e : ℕ) → Has s e → (q *ℤ covered w s) ≡ (q *ℤ w)
@@ -99,36 +115,47 @@ cover_base q w x some h = record { within = within; total = total } where
   total = ap Some (at_some (whole_set (length x)) 0 (Has-whole (length x) 0 some) ∙ sym h.sum)
 
   inside : (s : List Bool) → length s ≡ length x → IsWithin s (whole_set (length x))
-  inside s same e hs = ⊎_elim (λ (lt : e < length x). Has-whole (length x) e lt) (λ (ge : length x ≤ e). absurd (past s e (omega (arith, same)) hs)) (cases_lt e (length x)) where
-    past : (s : List Bool) (e : ℕ) → length s ≤ e → Has s e → ⊥
-    past [] e ge hs = false≢true hs
-    past (b ∷ s) zero ge hs = omega arith
-    past (b ∷ s) (suc e) ge hs = past s e (omega arith) hs
+  inside s same e hs = ⊎_elim (λ (lt : e < length x). Has-whole (length x) e lt)
+      (λ (ge : length x ≤ e). absurd (past s e (omega (arith, same)) hs))
+      (cases_lt e (length x)) where
+        past : (s : List Bool) (e : ℕ) → length s ≤ e → Has s e → ⊥
+        past [] e ge hs = false≢true hs
+        past (b ∷ s) zero ge hs = omega arith
+        past (b ∷ s) (suc e) ge hs = past s e (omega arith) hs
 
-  within : (s : List Bool) (a : ℤ) → length s ≡ length x → times q (cover_value w) s ≡ Some a → sum_over s x ≤ℤ a
-  within s a same e = let f : (q *ℤ covered w s) ≡ a = cc in rw (← f) (⊎_elim none met (cases_eq (size s) 0)) where
-    none : size s ≡ 0 → sum_over s x ≤ℤ (q *ℤ covered w s)
-    none z = let c = ap (λ a. q *ℤ a) (covered-none w s z) in let n = *ℤ-zero q in let o = sum_over-none s x z in omega (arith, ints, c, n, o)
+  within : (s : List Bool) (a : ℤ) → length s ≡ length x → times q (cover_value w) s ≡ Some a
+      → sum_over s x ≤ℤ a
+  within s a same e = let f : (q *ℤ covered w s) ≡ a = cc in rw (← f)
+      (⊎_elim none met (cases_eq (size s) 0)) where
+        none : size s ≡ 0 → sum_over s x ≤ℤ (q *ℤ covered w s)
+        none z = let c = ap (λ a. q *ℤ a) (covered-none w s z) in let n = *ℤ-zero
+            q in let o = sum_over-none s x z in omega (arith, ints, c, n, o)
 
-    met : size s ≢ 0 → sum_over s x ≤ℤ (q *ℤ covered w s)
-    met ne =
-        let c = ap (λ a. q *ℤ a) (covered-else w s ne) in
-        let m = sum_over-mono s (whole_set (length x)) x h.counts (same ∙ sym (length-replicate (length x) true)) (inside s same) in
-        let t = h.sum in
-        omega (arith, ints, c, m, t)
+        met : size s ≢ 0 → sum_over s x ≤ℤ (q *ℤ covered w s)
+        met ne =
+            let c = ap (λ a. q *ℤ a) (covered-else w s ne) in
+            let m = sum_over-mono s (whole_set (length x)) x h.counts
+            (same ∙ sym (length-replicate (length x) true)) (inside s same) in
+            let t = h.sum in
+            omega (arith, ints, c, m, t)
 
-pub cover_base_back : (q w : ℤ) (x : List ℤ) → pos 1 ≤ℤ q → pos 0 ≤ℤ w → 0 < length x → IsBase (times q (cover_value w)) x → IsCoverBase q w x
+pub cover_base_back : (q w : ℤ) (x : List ℤ) → pos 1 ≤ℤ q → pos 0 ≤ℤ w → 0 < length x
+    → IsBase (times q (cover_value w)) x → IsCoverBase q w x
 unfolding covered
 cover_base_back q w x hq hw some base = record { counts = counts; sum = sum } where
   sum : sum_over (whole_set (length x)) x ≡ (q *ℤ w)
   sum =
-      let f : (q *ℤ covered w (whole_set (length x))) ≡ sum_over (whole_set (length x)) x = (let e = base.total in cc) in
-      sym f ∙ ap (λ a. q *ℤ a) (covered-some w (whole_set (length x)) 0 (Has-whole (length x) 0 some))
+      let f : (q *ℤ covered w (whole_set (length x))) ≡ sum_over (whole_set (length x))
+      x = (let e = base.total in cc) in
+      sym f ∙ ap (λ a. q *ℤ a) (covered-some w (whole_set (length x)) 0
+      (Has-whole (length x) 0 some))
 
   counts : AreCounts x
   counts e lt =
-      let rest = base.within (without (length x) e) (q *ℤ covered w (without (length x) e)) (length-set (whole_set (length x)) e false ∙ length-replicate (length x) true) refl in
-      let high = times-mono q (covered w (without (length x) e)) w (omega (arith, ints)) (covered-bounds w (without (length x) e) hw).1 in
+      let rest = base.within (without (length x) e) (q *ℤ covered w (without (length x) e))
+      (length-set (whole_set (length x)) e false ∙ length-replicate (length x) true) refl in
+      let high = times-mono q (covered w (without (length x) e)) w (omega (arith, ints))
+      (covered-bounds w (without (length x) e) hw).1 in
       let all = sum in
       let parts = sum_over-without (length x) e x refl lt in
       omega (arith, ints, rest, high, all, parts)
@@ -137,14 +164,20 @@ cover_base_back q w x hq hw some base = record { counts = counts; sum = sum } wh
 
 pub cover-greedy : (k : ℕ) (q w : ℤ) → 0 < k → IsGreedy q (cover_value w) k (cover_start q w k)
 unfolding covered
-cover-greedy k q w some = record { places = length-set (replicate k (pos 0)) 0 (q *ℤ w) ∙ length-replicate k (pos 0); gains = gains } where
+cover-greedy k q w some = record {
+  places = length-set (replicate k (pos 0)) 0 (q *ℤ w)
+      ∙ length-replicate k (pos 0);
+  gains = gains;
+} where
   grown : (j : ℕ) → j < k → covered w (front k (suc j)) ≡ w
   grown j lt = covered-some w (front k (suc j)) 0 (head k j lt) where
     head : (k j : ℕ) → j < k → Has (front k (suc j)) 0
     head zero j lt = absurd (omega arith)
     head (suc k) j lt = refl
 
-  gains : (j : ℕ) (a b : ℤ) → j < k → cover_value w (first_places k (j + 1)) ≡ Some a → cover_value w (first_places k j) ≡ Some b → get_or (cover_start q w k) j (pos 0) ≡ (q *ℤ (a -ℤ b))
+  gains : (j : ℕ) (a b : ℤ) → j < k → cover_value w (first_places k (j + 1)) ≡ Some a
+      → cover_value w (first_places k j) ≡ Some b
+      → get_or (cover_start q w k) j (pos 0) ≡ (q *ℤ (a -ℤ b))
   gains zero a b lt ea eb =
       let fa : covered w (first_places k 1) ≡ a = cc in
       let fb : covered w (first_places k 0) ≡ b = cc in
@@ -164,18 +197,28 @@ cover-greedy k q w some = record { places = length-set (replicate k (pos 0)) 0 (
       let one = grown (suc j) lt in
       let other = grown j (omega arith) in
       let d : (a -ℤ b) ≡ pos 0 = omega (arith, ints, ga, gb, one, other) in
-      rw (d, *ℤ-zero q) (get_or-set_other (replicate k (pos 0)) 0 (suc j) (q *ℤ w) (pos 0) (λ e. absurd (omega (arith, e))) ∙ get_or-replicate k (suc j) (pos 0) (pos 0) lt)
+      rw (d, *ℤ-zero q) (get_or-set_other (replicate k (pos 0)) 0 (suc j) (q *ℤ w) (pos 0)
+      (λ e. absurd (omega (arith, e))) ∙ get_or-replicate k (suc j) (pos 0) (pos 0) lt)
 
-pub cover-starts : (k : ℕ) (q w : ℤ) → 0 < k → pos 1 ≤ℤ q → pos 0 ≤ℤ w → (length (cover_start q w k) ≡ k) × IsBase (times q (cover_value w)) (cover_start q w k)
+pub cover-starts : (k : ℕ) (q w : ℤ) → 0 < k → pos 1 ≤ℤ q → pos 0 ≤ℤ w
+    → (length (cover_start q w k) ≡ k) × IsBase (times q (cover_value w)) (cover_start q w k)
 unfolding covered
 cover-starts k q w some hq hw =
-    let greedy = cover-greedy k q w some in
-    (greedy.places, greedy_base k q (covered w) (cover_start q w k) (omega (arith, ints)) (cover-submodular k w hw) greedy)
+    let greedy = cover-greedy k q w some in (
+      greedy.places,
+      greedy_base k q (covered w) (cover_start q w k) (omega (arith, ints))
+          (cover-submodular k w hw) greedy,
+    )
 
-pub cover-starts_small : (k : ℕ) (q w : ℤ) → 0 < k → pos 1 ≤ℤ q → pos 0 ≤ℤ w → All (λ a. (neg_ℤ ((pos 2 *ℤ q) *ℤ w) ≤ℤ a) × (a ≤ℤ ((pos 2 *ℤ q) *ℤ w))) (cover_start q w k)
+pub cover-starts_small : (k : ℕ) (q w : ℤ) → 0 < k → pos 1 ≤ℤ q → pos 0 ≤ℤ w
+    → All (λ a. (neg_ℤ ((pos 2 *ℤ q) *ℤ w) ≤ℤ a) × (a ≤ℤ ((pos 2 *ℤ q) *ℤ w))) (cover_start q w k)
 unfolding covered
-cover-starts_small k q w some hq hw = greedy_small k q w (covered w) (cover_start q w k) (omega (arith, ints)) (λ s ks. cover-bounded w s _ hw refl) (cover-greedy k q w some)
+cover-starts_small k q w some hq hw =
+    greedy_small k q w (covered w) (cover_start q w k) (omega (arith, ints))
+    (λ s ks. cover-bounded w s _ hw refl) (cover-greedy k q w some)
 
-pub cover-starts_times : (k : ℕ) (q w : ℤ) → cover_start q w k ≡ map (λ a. q *ℤ a) (cover_start (pos 1) w k)
+pub cover-starts_times : (k : ℕ) (q w : ℤ)
+    → cover_start q w k ≡ map (λ a. q *ℤ a) (cover_start (pos 1) w k)
 cover-starts_times zero q w = refl
-cover-starts_times (suc k) q w = ap (λ a. a ∷ replicate k (pos 0)) (times-once q w) ∙ ap (λ r. (q *ℤ (pos 1 *ℤ w)) ∷ r) (zeros-times q k)
+cover-starts_times (suc k) q w = ap (λ a. a ∷ replicate k (pos 0)) (times-once q w)
+    ∙ ap (λ r. (q *ℤ (pos 1 *ℤ w)) ∷ r) (zeros-times q k)

@@ -36,20 +36,25 @@ binary-members zero n h = omega arith
 binary-members (suc k) n h =
     let p = pow-succ' 2 k in
     let r = binary-members k (n / 2) (omega (arith, p)) in
-    ⊎_elim (λ e. rw (eq-eqb (n % 2) 1 e, r) (omega (arith, e))) (λ ne. rw (ne_eqb (n % 2) 1 ne, r) (omega (arith, ne))) (cases_eq (n % 2) 1)
+    ⊎_elim (λ e. rw (eq-eqb (n % 2) 1 e, r) (omega (arith, e)))
+    (λ ne. rw (ne_eqb (n % 2) 1 ne, r) (omega (arith, ne))) (cases_eq (n % 2) 1)
 
-pub binary-set : (s : List Bool) (a : ℕ) → a < length s → get_or s a false ≡ false → binary (set s a true) ≡ binary s + 2 ^ a
+pub binary-set : (s : List Bool) (a : ℕ) → a < length s → get_or s a false ≡ false
+    → binary (set s a true) ≡ binary s + 2 ^ a
 binary-set [] a h out = absurd (omega arith)
 binary-set (true ∷ s) zero h out = absurd (true≢false out)
 binary-set (false ∷ s) zero h out = omega arith
-binary-set (true ∷ s) (suc a) h out = let r = binary-set s a (omega arith) out in let p = pow-succ' 2 a in omega (arith, r, p)
-binary-set (false ∷ s) (suc a) h out = let r = binary-set s a (omega arith) out in let p = pow-succ' 2 a in omega (arith, r, p)
+binary-set (true ∷ s) (suc a) h out = let r = binary-set s a (omega arith) out in let p = pow-succ'
+    2 a in omega (arith, r, p)
+binary-set (false ∷ s) (suc a) h out = let r = binary-set s a (omega arith) out in let p = pow-succ'
+    2 a in omega (arith, r, p)
 
 pub get_or-members : (k n j : ℕ) → j < k → get_or (members k n) j false ≡ nat_eq (n / 2 ^ j % 2) 1
 get_or-members zero n j h = absurd (omega arith)
 get_or-members (suc k) n zero h = let e : n / 2 ^ zero ≡ n = omega arith in rw e refl
 get_or-members (suc k) n (suc j) h =
-    let e : n / 2 ^ suc j ≡ n / 2 / 2 ^ j = ap (λ d. n / d) (pow-succ' 2 j) ∙ sym (div-div-eq-div-mul n 2 (2 ^ j)) in
+    let e : n / 2 ^ suc j ≡ n / 2 / 2 ^ j = ap (λ d. n / d) (pow-succ' 2 j)
+    ∙ sym (div-div-eq-div-mul n 2 (2 ^ j)) in
     rw e (get_or-members k (n / 2) j (omega arith))
 
 pub binary-none : (k : ℕ) → binary (empty_set k) ≡ 0
@@ -60,4 +65,5 @@ pub binary-front : (k j : ℕ) → j ≤ k → binary (front k j) + 1 ≡ 2 ^ j
 binary-front zero zero h = refl
 binary-front zero (suc j) h = absurd (omega arith)
 binary-front (suc k) zero h = let r = binary-front k zero (omega arith) in omega (arith, r)
-binary-front (suc k) (suc j) h = let r = binary-front k j (omega arith) in let p = pow-succ' 2 j in omega (arith, r, p)
+binary-front (suc k) (suc j) h = let r = binary-front k j (omega arith) in let p = pow-succ' 2
+    j in omega (arith, r, p)

@@ -72,6 +72,7 @@ product-fits n sizes e p h are l =
 
 -- the shift by one size more
 pub sized-more : (sizes : List ℤ) (e : ℕ) (p : ℤ) → e < length sizes
-    → sized_shift (take (e + 1) sizes) p ≡ (sized_shift (take e sizes) p ++ (p *ℤ get_or sizes e (pos 0)) ∷ [])
+    → sized_shift (take (e + 1) sizes)
+    p ≡ (sized_shift (take e sizes) p ++ (p *ℤ get_or sizes e (pos 0)) ∷ [])
 sized-more sizes e p l = ap (λ ws. sized_shift ws p) (take_more sizes e (pos 0) l)
     ∙ map-append (λ w. p *ℤ w) (take e sizes) (get_or sizes e (pos 0) ∷ [])

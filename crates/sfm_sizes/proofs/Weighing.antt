@@ -1,4 +1,5 @@
--- The weight of a set, one place after another, and its bounds; sizes where each element counts one.
+-- The weight of a set, one place after another, and its bounds; sizes where each element counts
+-- one.
 use Rattle.std.proofs.Common.{◌≡◌, ℕ, ◌+◌, ◌<◌, ◌≤◌, ◌^◌, Bool, true, false, List, [], ◌∷◌, length, get_or, drop, ℤ, pos, ◌+ℤ◌, ◌≤ℤ◌, if◌then◌else◌, refl, arith}
 use Rattle.std.proofs.lemmas.Int.{ints}
 use Rattle.std.proofs.lemmas.List.{drop_more}
@@ -22,7 +23,8 @@ weight-bounds [] (w ∷ sizes) are =
 weight-bounds (b ∷ s) (w ∷ sizes) are =
     let r = weight-bounds s sizes (All-tail (λ v. pos 1 ≤ℤ v) w sizes are) in
     at b r (All-head (λ v. pos 1 ≤ℤ v) w sizes are) where
-      at : (b : Bool) → (pos 0 ≤ℤ sum_over s sizes) × (sum_over s sizes ≤ℤ total_of sizes) → pos 1 ≤ℤ w
+      at : (b : Bool) → (pos 0 ≤ℤ sum_over s sizes) × (sum_over s sizes ≤ℤ total_of sizes)
+          → pos 1 ≤ℤ w
           → let more = (if b then w else pos 0) +ℤ sum_over s sizes in
           (pos 0 ≤ℤ more) × (more ≤ℤ (w +ℤ total_of sizes))
       at true r one = (omega (arith, ints, r.0, one), omega (arith, ints, r.1))
@@ -30,7 +32,8 @@ weight-bounds (b ∷ s) (w ∷ sizes) are =
 
 -- what is left weighs the next place and what is left behind it
 pub weight-drop : (s : List Bool) (sizes : List ℤ) (e : ℕ) → e < length s → e < length sizes
-    → sum_over (drop e s) (drop e sizes) ≡ ((if get_or s e false then get_or sizes e (pos 0) else pos 0)
+    → sum_over (drop e s) (drop e sizes)
+    ≡ ((if get_or s e false then get_or sizes e (pos 0) else pos 0)
     +ℤ sum_over (drop (e + 1) s) (drop (e + 1) sizes))
 weight-drop s sizes e ls lw = rw (drop_more s e false ls, drop_more sizes e (pos 0) lw) refl
 
@@ -54,10 +57,16 @@ weight-step n s sizes e weight are same l low so_far =
           → total ≤ℤ pos (10 ^ 6)
           → let next = weight +ℤ (if b then w else pos 0) in
           ((next +ℤ r) ≡ a) × (pos 0 ≤ℤ next) × (next ≤ℤ pos (10 ^ 6))
-      by true one low so step rest all most =
-          (omega (arith, ints, so, step), omega (arith, ints, one, low), omega (arith, ints, so, step, rest, all, most))
-      by false one low so step rest all most =
-          (omega (arith, ints, so, step), omega (arith, ints, low), omega (arith, ints, so, step, rest, all, most))
+      by true one low so step rest all most = (
+        omega (arith, ints, so, step),
+        omega (arith, ints, one, low),
+        omega (arith, ints, so, step, rest, all, most),
+      )
+      by false one low so step rest all most = (
+        omega (arith, ints, so, step),
+        omega (arith, ints, low),
+        omega (arith, ints, so, step, rest, all, most),
+      )
 
 -- where each element counts one
 pub ones-are-sizes : (n : ℕ) → n ≤ 256 → AreElementSizes n (ones n)

@@ -18,6 +18,8 @@ has_bases terms firsts n b h = record {
   few = rw (total-ones n) at h.few;
 }
 
-pub all_have_bases : (terms : List Meaning) (firsts : ℤ → List (List ℤ)) (n : ℕ) (breaks : List Break)
+pub all_have_bases : (terms : List Meaning) (firsts : ℤ → List (List ℤ)) (n : ℕ)
+    (breaks : List Break)
     → All (HasBasesBy terms firsts n (ones n)) breaks → All (HasBases terms firsts n) breaks
-all_have_bases terms firsts n breaks h k d l = has_bases terms firsts n (get_or breaks k d) (h k d l)
+all_have_bases terms firsts n breaks h k d l =
+    has_bases terms firsts n (get_or breaks k d) (h k d l)

@@ -17,7 +17,12 @@ use Rattle.sfm_slope.proofs.Values.{all_given, value_small}
 -- a number lies below its floor and one more
 floor-most : (p q : ℤ) → pos 1 ≤ℤ q → p <ℤ (q *ℤ int_div_euclid p q +ℤ q)
 floor-most p (negsuc b) one = absurd (omega (arith, ints, one))
-floor-most (pos a) (pos b) one = let some : zero < b = omega (arith, ints, one) in omega (arith, ints, lt-mul-div-succ a {b = b} some)
+floor-most (pos a) (pos b) one =
+    let some : zero < b = omega (arith, ints, one) in omega (
+      arith,
+      ints,
+      lt-mul-div-succ a {b = b} some,
+    )
 floor-most (negsuc a) (pos b) one = omega (arith, ints, mul-div-le a b)
 
 -- the quotient of a multiple
@@ -35,12 +40,16 @@ quotient-times q s one =
     omega (arith, ints, low, high)
 
 -- p times a weight
-pub product_small : (p w : ℤ) → IsAtMost (10 ^ 21) p → pos 0 ≤ℤ w → w ≤ℤ pos (10 ^ 6) → IsAtMost (10 ^ 27) (p *ℤ w)
+pub product_small : (p w : ℤ) → IsAtMost (10 ^ 21) p → pos 0 ≤ℤ w → w ≤ℤ pos (10 ^ 6)
+    → IsAtMost (10 ^ 27) (p *ℤ w)
 product_small p w h low high =
     let up = times-mono w p (pos (10 ^ 21)) low h.high in
     let down = times-mono w (neg_ℤ (pos (10 ^ 21))) p low h.low in
     let c = times-comm p w in
-    record { low = omega (arith, ints, down, c, high, low); high = omega (arith, ints, up, c, high) }
+    record {
+      low = omega (arith, ints, down, c, high, low);
+      high = omega (arith, ints, up, c, high);
+    }
 
 -- q times a sum
 pub multiple_small : (q s : ℤ) → IsFactor q → IsGiven s → IsAtMost (10 ^ 24) (q *ℤ s)
@@ -51,23 +60,28 @@ multiple_small q s f h =
 
 -- a set that attains the least value at a slope, over terms whose sizes add to at most 10^18
 module _ {X : Type 0} (places : X → List ℕ) (value : X → SetFunction) (bound : X → ℤ)
-    (bounded : (x : X) (s : List Bool) (a : ℤ) → length s ≡ length (places x) → value x s ≡ Some a → (neg_ℤ (bound x) ≤ℤ a) × (a ≤ℤ bound x))
+    (bounded : (x : X) (s : List Bool) (a : ℤ) → length s ≡ length (places x) → value x s ≡ Some a
+    → (neg_ℤ (bound x) ≤ℤ a) × (a ≤ℤ bound x))
     (empty : (x : X) → value x (empty_set (length (places x))) ≡ Some (pos 0))
-    (xs : List X) (small : total_of (map bound xs) ≤ℤ pos (10 ^ 18)) (sizes : List ℤ) (p q v : ℤ) (s : List Bool)
+    (xs : List X) (small : total_of (map bound xs) ≤ℤ pos (10 ^ 18)) (sizes : List ℤ) (p q v : ℤ)
+    (s : List Bool)
     (attains : v ≡ shifted_at (meanings places value xs) q (sized_shift sizes p) s) where
   given : IsGiven (sum_at (meanings places value xs) s)
   given = all_given places value bound s (value_small places value bound bounded empty s) xs small
 
   by_weight : v ≡ (q *ℤ sum_at (meanings places value xs) s -ℤ p *ℤ sum_over s sizes)
-  by_weight = attains ∙ ap (λ y. q *ℤ sum_at (meanings places value xs) s -ℤ y) (sum_over-sized s sizes p)
+  by_weight = attains ∙ ap (λ y. q *ℤ sum_at (meanings places value xs) s -ℤ y)
+      (sum_over-sized s sizes p)
 
   -- the value is that of the sum there, less what the slope takes
   pub attained_by : (sum : ℤ) × IsGiven sum × (v ≡ (q *ℤ sum -ℤ p *ℤ sum_over s sizes))
   attained_by = (sum_at (meanings places value xs) s, given, by_weight)
 
   -- so what it is worth follows
-  pub attained_worth : (w : Worth) → IsAllowed (meanings places value xs) s → w.set ≡ s → w.size ≡ size s → w.weight ≡ sum_over s sizes
-      → ((sum : ℤ) → IsGiven sum → v ≡ (q *ℤ sum -ℤ p *ℤ sum_over s sizes) → w.sum ≡ sum) → IsWorth (meanings places value xs) sizes w
+  pub attained_worth : (w : Worth) → IsAllowed (meanings places value xs) s → w.set ≡ s
+      → w.size ≡ size s → w.weight ≡ sum_over s sizes
+      → ((sum : ℤ) → IsGiven sum → v ≡ (q *ℤ sum -ℤ p *ℤ sum_over s sizes) → w.sum ≡ sum)
+      → IsWorth (meanings places value xs) sizes w
   attained_worth w allowed same count weight sum = record {
     allowed = rw same allowed;
     size = rw same count;

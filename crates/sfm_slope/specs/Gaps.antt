@@ -15,4 +15,5 @@ pub record IsGap (terms : List Meaning) (n : ℕ) (sizes : List ℤ) (a t : List
   pub allowed : IsAllowed terms t
   pub within : IsWithin a t
   pub larger : size a < size t
-  pub at_slope : (t ≡ whole_set n) ⊎ ((p q : ℤ) × (pos 1 ≤ℤ q) × IsLeast terms n q (sized_shift sizes p) t)
+  pub at_slope : (t ≡ whole_set n)
+      ⊎ ((p q : ℤ) × (pos 1 ≤ℤ q) × IsLeast terms n q (sized_shift sizes p) t)

@@ -11,8 +11,9 @@ use Rattle.sfm_law.specs.declared.breaks.Break.{Break}
 abbrev pub mark_of : Break → Mark
 mark_of b = record { num = b.slope.num; den = b.slope.den; members = b.set }
 
--- the bases of a breakpoint are bases with small entries, and prove at the shift of its numerator; few walks there lead to them
--- from the first bases, which are told for each denominator; the denominator is at most `most`
+-- the bases of a breakpoint are bases with small entries, and prove at the shift of its numerator;
+-- few walks there lead to them from the first bases, which are told for each denominator; the
+-- denominator is at most `most`
 pub record HasBasesAt (terms : List Meaning) (firsts : ℤ → List (List ℤ)) (n : ℕ)
     (shift : ℤ → List ℤ) (most : ℤ) (b : Break) : Type 0 where
   pub bases : AreBases b.slope.den terms b.bases

@@ -8,6 +8,7 @@ use Rattle.sfm_slope.specs.declared.turn.Breakpoint.{Breakpoint}
 use Rattle.sfm_slope.specs.Points.{IsInRange, found_mark}
 
 -- a chain from the empty set to the last one
-pub record IsPartTo (terms : List Meaning) (n : ℕ) (sizes : List ℤ) (found : List Breakpoint) (last : List Bool) : Type 0 where
+pub record IsPartTo (terms : List Meaning) (n : ℕ) (sizes : List ℤ) (found : List Breakpoint)
+    (last : List Bool) : Type 0 where
   pub chain : IsChainTo terms n sizes (empty_set n) (map found_mark found) last
   pub ranges : All (IsInRange sizes) found

@@ -28,8 +28,10 @@ pub sum-ones : (n : ℕ) (s : List Bool) → length s ≡ n → sum_over s (ones
 sum-ones zero [] h = refl
 sum-ones zero (b ∷ s) h = absurd (omega arith)
 sum-ones (suc n) [] h = absurd (omega arith)
-sum-ones (suc n) (true ∷ s) h = let r = sum-ones n s (omega arith) in rw (size-cons true s) (omega (arith, ints, r))
-sum-ones (suc n) (false ∷ s) h = let r = sum-ones n s (omega arith) in rw (size-cons false s) (omega (arith, ints, r))
+sum-ones (suc n) (true ∷ s) h = let r = sum-ones n s (omega arith) in rw (size-cons true s)
+    (omega (arith, ints, r))
+sum-ones (suc n) (false ∷ s) h = let r = sum-ones n s (omega arith) in rw (size-cons false s)
+    (omega (arith, ints, r))
 
 -- all together there are as many as places
 pub total-ones : (n : ℕ) → total_of (ones n) ≡ pos n

@@ -9,7 +9,8 @@ use Rattle.sfm_spec.specs.Sets.{union, intersection}
 use Rattle.sfm_spec.specs.Terms.{SetFunction, times, IsFamily, IsSubmodular}
 
 -- what q times an option holds
-pub times_some : (q : ℤ) (o : Option ℤ) (c : ℤ) → option_map (λ a. q *ℤ a) o ≡ Some c → (a : ℤ) × (o ≡ Some a) × (c ≡ (q *ℤ a))
+pub times_some : (q : ℤ) (o : Option ℤ) (c : ℤ) → option_map (λ a. q *ℤ a) o ≡ Some c → (a : ℤ)
+    × (o ≡ Some a) × (c ≡ (q *ℤ a))
 times_some q None c h = cc
 times_some q (Some a) c h = (a, refl, cc)
 
@@ -30,11 +31,23 @@ times-mono (negsuc n) a b h k = absurd (omega (arith, ints))
 
 -- q (a + b) = q a + q b
 pub times-add : (q a b : ℤ) → (q *ℤ (a +ℤ b)) ≡ ((q *ℤ a) +ℤ (q *ℤ b))
-times-add q a b = omega (arith, ints, ap (λ z. up q * z) (sum_is_lem a b), ap (λ z. down q * z) (sum_is_lem a b))
+times-add q a b = omega (
+  arith,
+  ints,
+  ap (λ z. up q * z) (sum_is_lem a b),
+  ap (λ z. down q * z) (sum_is_lem a b),
+)
 
 -- q (-a) = -(q a)
 pub times-neg : (q a : ℤ) → (q *ℤ neg_ℤ a) ≡ neg_ℤ (q *ℤ a)
-times-neg q a = omega (arith, ints, ap (λ z. up q * z) (neg_is a).0, ap (λ z. down q * z) (neg_is a).0, ap (λ z. up q * z) (neg_is a).1, ap (λ z. down q * z) (neg_is a).1)
+times-neg q a = omega (
+  arith,
+  ints,
+  ap (λ z. up q * z) (neg_is a).0,
+  ap (λ z. down q * z) (neg_is a).0,
+  ap (λ z. up q * z) (neg_is a).1,
+  ap (λ z. down q * z) (neg_is a).1,
+)
 
 -- a b = b a
 pub times-comm : (a b : ℤ) → (a *ℤ b) ≡ (b *ℤ a)
@@ -73,12 +86,16 @@ pub family-times : (k : ℕ) (q : ℤ) (f : SetFunction) → IsFamily k f → Is
 family-times k q f h = record {
   empty = times_allowed q _ h.empty;
   whole = times_allowed q _ h.whole;
-  unions = λ s t ks kt ls lt. times_allowed q _ (h.unions s t ks kt (times_allowed_back q _ ls) (times_allowed_back q _ lt));
-  intersections = λ s t ks kt ls lt. times_allowed q _ (h.intersections s t ks kt (times_allowed_back q _ ls) (times_allowed_back q _ lt));
+  unions = λ s t ks kt ls lt. times_allowed q _
+      (h.unions s t ks kt (times_allowed_back q _ ls) (times_allowed_back q _ lt));
+  intersections = λ s t ks kt ls lt.
+      times_allowed q _ (h.intersections s t ks kt (times_allowed_back q _ ls)
+      (times_allowed_back q _ lt));
 }
 
 -- q times f is submodular, q not being negative
-pub submodular-times : (k : ℕ) (q : ℤ) (f : SetFunction) → pos 0 ≤ℤ q → IsSubmodular k f → IsSubmodular k (times q f)
+pub submodular-times : (k : ℕ) (q : ℤ) (f : SetFunction) → pos 0 ≤ℤ q → IsSubmodular k f
+    → IsSubmodular k (times q f)
 submodular-times k q f low h = record {
   at_empty = ap (option_map (λ a. q *ℤ a)) h.at_empty ∙ ap Some (*ℤ-zero q);
   submodular = λ s t a b c d ks kt es et eu ei.
@@ -86,6 +103,7 @@ submodular-times k q f low h = record {
       let (b', ft, eb) = times_some q (f t) b et in
       let (c', fu, ec) = times_some q (f (union s t)) c eu in
       let (d', fi, ed) = times_some q (f (intersection s t)) d ei in
-      let less = times-mono q (c' +ℤ d') (a' +ℤ b') low (h.submodular s t a' b' c' d' ks kt fs ft fu fi) in
+      let less = times-mono q (c' +ℤ d') (a' +ℤ b') low
+      (h.submodular s t a' b' c' d' ks kt fs ft fu fi) in
       rw (ea, eb, ec, ed, ← times-add q c' d', ← times-add q a' b') less;
 }

@@ -7,11 +7,14 @@ use Rattle.sfm_spec.specs.Families.{Meaning}
 use Rattle.sfm_spec.specs.Laws.{Mark, SlopesNest, IsChain, AreBreakpoints}
 use Rattle.sfm_spec.specs.Search.{AreLowest, mark_at}
 
--- chain of slopes: minimisers nest along ascending slopes; a list of slopes in lowest terms with sets is all breakpoints in order exactly
--- where each set is the greatest minimiser at its slope, larger than the set before, which is the least one there, from the empty set
--- to the whole; there are at most n, and no denominator exceeds the sum of the sizes
+-- chain of slopes: minimisers nest along ascending slopes; a list of slopes in lowest terms with
+-- sets is all breakpoints in order exactly where each set is the greatest minimiser at its slope,
+-- larger than the set before, which is the least one there, from the empty set to the whole; there
+-- are at most n, and no denominator exceeds the sum of the sizes
 pub record ChainLaws (terms : List Meaning) (n : ℕ) (sizes : List ℤ) : Type 0 where
   pub nested : SlopesNest terms n sizes
-  pub exact : (marks : List Mark) → (IsChain terms n sizes (empty_set n) marks × AreLowest marks) ↔ AreBreakpoints terms n sizes marks
+  pub exact : (marks : List Mark) → (IsChain terms n sizes (empty_set n) marks × AreLowest marks)
+      ↔ AreBreakpoints terms n sizes marks
   pub few : (marks : List Mark) → AreBreakpoints terms n sizes marks → length marks ≤ n
-  pub low : (marks : List Mark) → AreBreakpoints terms n sizes marks → (i : ℕ) → i < length marks → (mark_at marks i).den ≤ℤ total_of sizes
+  pub low : (marks : List Mark) → AreBreakpoints terms n sizes marks → (i : ℕ) → i < length marks
+      → (mark_at marks i).den ≤ℤ total_of sizes

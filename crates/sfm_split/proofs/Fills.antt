@@ -17,7 +17,8 @@ use Rattle.sfm_split.specs.Search.{node_at, HasRoots, IsStuck, IsFoundSet, IsRai
 use Rattle.sfm_split.specs.declared.nodes.Node.{Node}
 use Rattle.sfm_split.proofs.Searches.{some_apart}
 
-sum_in-whole : (n : ℕ) (js : List ℕ) (y : List ℤ) → length y ≡ length js → ((e : ℕ) → e < length js → label_at js e < n) → sum_in (whole_set n) js y ≡ total_of y
+sum_in-whole : (n : ℕ) (js : List ℕ) (y : List ℤ) → length y ≡ length js
+    → ((e : ℕ) → e < length js → label_at js e < n) → sum_in (whole_set n) js y ≡ total_of y
 sum_in-whole n [] [] same below = refl
 sum_in-whole n [] (a ∷ y) same below = absurd (omega arith)
 sum_in-whole n (j ∷ js) [] same below = absurd (omega arith)
@@ -27,8 +28,11 @@ sum_in-whole n (j ∷ js) (a ∷ y) same below =
     rw h (omega (arith, ints, r))
 
 -- all amounts together, counted by the demands
-total-tally : (n : ℕ) (js : List ℕ) (y : List ℤ) → length y ≡ length js → ((e : ℕ) → e < length js → label_at js e < n) → sum_over (whole_set n) (tally n js y) ≡ total_of y
-total-tally n js y same below = sum_over-tally n (whole_set n) js y (length-replicate n true) below ∙ sum_in-whole n js y same below
+total-tally : (n : ℕ) (js : List ℕ) (y : List ℤ) → length y ≡ length js
+    → ((e : ℕ) → e < length js → label_at js e < n)
+    → sum_over (whole_set n) (tally n js y) ≡ total_of y
+total-tally n js y same below = sum_over-tally n (whole_set n) js y (length-replicate n true) below
+    ∙ sum_in-whole n js y same below
 
 in_whole : (n i : ℕ) → Has (whole_set n) i → i < n
 in_whole zero i h = absurd (false≢true h)
@@ -36,7 +40,9 @@ in_whole (suc n) zero h = omega arith
 in_whole (suc n) (suc i) h = let r = in_whole n i h in omega (arith, r)
 
 -- the demands together are no less than what they get
-pub total_bound : (demands capacities : List ℤ) (m : ℕ) (whos slots : List ℕ) (y : List ℤ) → AreCells (length demands) m whos slots → IsPart demands capacities whos slots y → total_of y ≤ℤ total_of demands
+pub total_bound : (demands capacities : List ℤ) (m : ℕ) (whos slots : List ℕ) (y : List ℤ)
+    → AreCells (length demands) m whos slots → IsPart demands capacities whos slots y
+    → total_of y ≤ℤ total_of demands
 total_bound demands capacities m whos slots y cells part =
     let n = length demands in
     let t = total-tally n whos y part.cells cells.owned in
@@ -61,7 +67,9 @@ to_nat_falls (pos a) (negsuc b) low less = absurd (omega (arith, ints, less))
 to_nat_falls (negsuc a) b low less = absurd (omega (arith, ints, low))
 
 -- what is left is not negative, and with what is taken makes the total
-pub left_low : (totals : List ℤ) (labels : List ℕ) (y left : List ℤ) → AreLeft totals labels y left → ((k : ℕ) → k < length totals → sum_at k labels y ≤ℤ amount_at totals k) → (k : ℕ) → k < length left → pos 0 ≤ℤ amount_at left k
+pub left_low : (totals : List ℤ) (labels : List ℕ) (y left : List ℤ) → AreLeft totals labels y left
+    → ((k : ℕ) → k < length totals → sum_at k labels y ≤ℤ amount_at totals k) → (k : ℕ)
+    → k < length left → pos 0 ≤ℤ amount_at left k
 left_low totals labels y left h within k lt =
     let p = h.places in
     let lk : k < length totals = omega (arith, p, lt) in
@@ -69,7 +77,9 @@ left_low totals labels y left h within k lt =
     let w = within k lk in
     omega (arith, ints, e, w)
 
-pub left_small : (capacities : List ℤ) (slots : List ℕ) (y rooms : List ℤ) → All IsCapacity capacities → AreLeft capacities slots y rooms → (s : ℕ) → s < length rooms → (sum_at s slots y +ℤ amount_at rooms s) ≤ℤ pos (10 ^ 24)
+pub left_small : (capacities : List ℤ) (slots : List ℕ) (y rooms : List ℤ)
+    → All IsCapacity capacities → AreLeft capacities slots y rooms → (s : ℕ) → s < length rooms
+    → (sum_at s slots y +ℤ amount_at rooms s) ≤ℤ pos (10 ^ 24)
 left_small capacities slots y rooms bounded h s lt =
     let p = h.places in
     let lk : s < length capacities = omega (arith, p, lt) in
@@ -77,16 +87,24 @@ left_small capacities slots y rooms bounded h s lt =
     let b = (All-get_or IsCapacity capacities s (pos 0) lk bounded).high in
     omega (arith, ints, e, b)
 
-pub below_nodes : (nodes : List (Option Node)) (i : ℕ) (b : Node) → node_at nodes i ≡ Some b → i < length nodes
+pub below_nodes : (nodes : List (Option Node)) (i : ℕ) (b : Node) → node_at nodes i ≡ Some b
+    → i < length nodes
 below_nodes [] i b is = cc
 below_nodes (o ∷ nodes) zero b is = omega arith
 below_nodes (o ∷ nodes) (suc i) b is = let r = below_nodes nodes i b is in omega (arith, r)
 
 -- one demand gets more, within what it lacks, and one slot, within its room
-module _ (demands capacities : List ℤ) (whos slots : List ℕ) (y lacks rooms : List ℤ) (nodes : List (Option Node)) (last : ℕ) (a : ℤ) (z : List ℤ) (cells : AreCells (length demands) (length capacities) whos slots) (part : IsPart demands capacities whos slots y)
-    (ll : AreLeft demands whos y lacks) (lr : AreLeft capacities slots y rooms) (places : length nodes ≡ length lacks) (lt : last < length whos) (some : pos 1 ≤ℤ a) (fits : a ≤ℤ amount_at rooms (label_at slots last)) (r : IsRaised whos slots nodes lacks last a y z) where
+module _ (demands capacities : List ℤ) (whos slots : List ℕ) (y lacks rooms : List ℤ)
+    (nodes : List (Option Node)) (last : ℕ) (a : ℤ) (z : List ℤ)
+    (cells : AreCells (length demands) (length capacities) whos slots)
+    (part : IsPart demands capacities whos slots y)
+    (ll : AreLeft demands whos y lacks) (lr : AreLeft capacities slots y rooms)
+    (places : length nodes ≡ length lacks) (lt : last < length whos) (some : pos 1 ≤ℤ a)
+    (fits : a ≤ℤ amount_at rooms (label_at slots last))
+    (r : IsRaised whos slots nodes lacks last a y z) where
   pub root_in : r.root < length demands
-  root_in = let b = below_nodes nodes r.root r.node r.is_node in let p = ll.places in omega (arith, b, places, p)
+  root_in = let b = below_nodes nodes r.root r.node
+      r.is_node in let p = ll.places in omega (arith, b, places, p)
 
   pub raised_more : GetsMore whos y z
   raised_more i = let g = r.got i in let s = some in ⊎_elim
@@ -138,34 +156,45 @@ module _ (demands capacities : List ℤ) (whos slots : List ℕ) (y lacks rooms 
       let gy = tally-at n r.root whos y root in
       let gz = tally-at n r.root whos z root in
       let s = some in
-      let m = sum_over-lt (whole_set n) (tally n whos y) (tally n whos z) r.root (lw ∙ sym ly) (lz ∙ sym ly) (λ i has.
+      let m = sum_over-lt (whole_set n) (tally n whos y) (tally n whos z) r.root (lw ∙ sym ly)
+      (lz ∙ sym ly) (λ i has.
       let li = in_whole n i has in
       let hy = tally-at n i whos y li in
       let hz = tally-at n i whos z li in
       let more = raised_more i in
-      omega (arith, ints, hy, hz, more)) (Has-whole n r.root root) (omega (arith, ints, g, o, gy, gz, s)) in
+      omega (arith, ints, hy, hz, more)) (Has-whole n r.root root)
+      (omega (arith, ints, g, o, gy, gz, s)) in
       omega (arith, ints, t, u, m)
 
 -- a search that ended without room tells a closed set with all demands that lack something
-pub stuck_filled : (demands capacities : List ℤ) (whos slots : List ℕ) (y lacks rooms : List ℤ) (nodes : List (Option Node)) (s : List Bool) → AreCells (length demands) (length capacities) whos slots → IsPart demands capacities whos slots y
-    → AreLeft demands whos y lacks → AreLeft capacities slots y rooms → length nodes ≡ length lacks → HasRoots lacks nodes → IsStuck whos slots y rooms nodes → IsFoundSet nodes s → IsFilled demands capacities whos slots y s
-stuck_filled demands capacities whos slots y lacks rooms nodes s cells part ll lr places begins stuck set = record {
-  places = set.places ∙ (places ∙ ll.places);
-  closed = record {
-    full = λ e lt has.
-        let f = stuck.full e lt (set.members (label_at whos e) has) in
-        let h = lr.each (label_at slots e) (cells.exist e lt) in
-        omega (arith, ints, f, h);
-    none = λ e f le lf has shared out.
-        let o = cells.owned f lf in
-        let p = ll.places in
-        let n = stuck.none e f le lf (set.members (label_at whos e) has) shared (set.others (label_at whos f) (omega (arith, o, p, places)) out) in
-        let low = part.amounts f in
-        omega (arith, ints, n, low);
-  };
-  lacking = λ i lt less.
-      let h = ll.each i lt in
-      let p = ll.places in
-      let (b, is) = begins i (omega (arith, ints, h, less)) in
-      ⊎_elim (λ has. has) (λ out. absurd (some_apart (node_at nodes i) (set.others i (omega (arith, lt, p, places)) out) is)) (cases_Bool (get_or s i false));
-}
+pub stuck_filled : (demands capacities : List ℤ) (whos slots : List ℕ) (y lacks rooms : List ℤ)
+    (nodes : List (Option Node)) (s : List Bool)
+    → AreCells (length demands) (length capacities) whos slots
+    → IsPart demands capacities whos slots y
+    → AreLeft demands whos y lacks → AreLeft capacities slots y rooms → length nodes ≡ length lacks
+    → HasRoots lacks nodes → IsStuck whos slots y rooms nodes → IsFoundSet nodes s
+    → IsFilled demands capacities whos slots y s
+stuck_filled demands capacities whos slots y lacks rooms nodes s cells part ll lr places begins
+    stuck set = record {
+      places = set.places ∙ (places ∙ ll.places);
+      closed = record {
+        full = λ e lt has.
+            let f = stuck.full e lt (set.members (label_at whos e) has) in
+            let h = lr.each (label_at slots e) (cells.exist e lt) in
+            omega (arith, ints, f, h);
+        none = λ e f le lf has shared out.
+            let o = cells.owned f lf in
+            let p = ll.places in
+            let n = stuck.none e f le lf (set.members (label_at whos e) has) shared
+            (set.others (label_at whos f) (omega (arith, o, p, places)) out) in
+            let low = part.amounts f in
+            omega (arith, ints, n, low);
+      };
+      lacking = λ i lt less.
+          let h = ll.each i lt in
+          let p = ll.places in
+          let (b, is) = begins i (omega (arith, ints, h, less)) in
+          ⊎_elim (λ has. has)
+          (λ out. absurd (some_apart (node_at nodes i)
+          (set.others i (omega (arith, lt, p, places)) out) is)) (cases_Bool (get_or s i false));
+    }

@@ -19,17 +19,24 @@ use Rattle.sfm_split.proofs.Fills.{stuck_filled}
 use Rattle.sfm_split.proofs.Pours.{pouring_begun}
 use Rattle.sfm_split.proofs.Searches.{founds, founds_are}
 
-module _ (d : Demands) (sound : AreDemands d) (u : ℕ) (lu : u < length d.demands) (limit : ℤ) (low : pos 0 ≤ℤ limit) (y : List ℤ) (part : IsPart d.demands d.capacities (owners 0 d.lists) (joined d.lists) y) where
+module _ (d : Demands) (sound : AreDemands d) (u : ℕ) (lu : u < length d.demands) (limit : ℤ)
+    (low : pos 0 ≤ℤ limit) (y : List ℤ)
+    (part : IsPart d.demands d.capacities (owners 0 d.lists) (joined d.lists) y) where
   -- the amounts by which the demands are met are still amounts when one of them asks for more
-  pub growing_part : IsPart (with_more d u limit).demands d.capacities (owners 0 d.lists) (joined d.lists) y
-  growing_part = asked_part d sound u lu (amount_at d.demands u) (amount_at d.demands u +ℤ limit) y (omega (arith, ints, low)) (rw (set-get_or d.demands u (pos 0)) part)
+  pub growing_part : IsPart (with_more d u limit).demands d.capacities (owners 0 d.lists)
+      (joined d.lists) y
+  growing_part = asked_part d sound u lu (amount_at d.demands u) (amount_at d.demands u +ℤ limit) y
+      (omega (arith, ints, low)) (rw (set-get_or d.demands u (pos 0)) part)
 
   -- what they leave then: u lacks what it asks for besides, and the others nothing
-  module _ (met : IsMet d.demands (owners 0 d.lists) y) (before : List ℤ) (left : AreLeft d.demands (owners 0 d.lists) y before) where
+  module _ (met : IsMet d.demands (owners 0 d.lists) y) (before : List ℤ)
+      (left : AreLeft d.demands (owners 0 d.lists) y before) where
     nothing : (k : ℕ) → k < length d.demands → amount_at before k ≡ pos 0
-    nothing k lk = let m = met k lk in let p = part.got k lk in let e = left.each k lk in omega (arith, ints, m, p, e)
+    nothing k lk = let m = met k lk in let p = part.got k lk in let e = left.each k
+        lk in omega (arith, ints, m, p, e)
 
-    pub growing_left : AreLeft (with_more d u limit).demands (owners 0 d.lists) y (set before u limit)
+    pub growing_left : AreLeft (with_more d u limit).demands (owners 0 d.lists) y
+        (set before u limit)
     growing_left =
         let la = length-set d.demands u (amount_at d.demands u +ℤ limit) in
         let lb = left.places in
@@ -58,22 +65,39 @@ module _ (d : Demands) (sound : AreDemands d) (u : ℕ) (lu : u < length d.deman
     growing_listed =
         let lb = left.places in
         let ls = length-set before u limit in
-        listed_one (set before u limit) u (omega (arith, lu, lb, ls)) (λ i lt ne. let o = get_or-set_other before u i limit (pos 0) ne in let z = nothing i (omega (arith, lt, lb, ls)) in omega (arith, ints, o, z))
+        listed_one (set before u limit) u (omega (arith, lu, lb, ls))
+        (λ i lt ne. let o = get_or-set_other before u i limit (pos 0) ne in let z = nothing i
+        (omega (arith, lt, lb, ls)) in omega (arith, ints, o, z))
 
   -- what a filling then tells
-  module _ (lacks rooms z lacks' rooms' : List ℤ) (nodes : List (Option Node)) (ll : AreLeft (with_more d u limit).demands (owners 0 d.lists) y lacks) (lr : AreLeft d.capacities (joined d.lists) y rooms)
-      (raised : AreRaised (owners 0 d.lists) (joined d.lists) y lacks rooms z lacks' rooms') (s : IsSearch (owners 0 d.lists) (joined d.lists) z lacks' rooms' nodes None) where
-    growing_cells : AreCells (length (with_more d u limit).demands) (length d.capacities) (owners 0 d.lists) (joined d.lists)
+  module _ (lacks rooms z lacks' rooms' : List ℤ) (nodes : List (Option Node))
+      (ll : AreLeft (with_more d u limit).demands (owners 0 d.lists) y lacks)
+      (lr : AreLeft d.capacities (joined d.lists) y rooms)
+      (raised : AreRaised (owners 0 d.lists) (joined d.lists) y lacks rooms z lacks' rooms')
+      (s : IsSearch (owners 0 d.lists) (joined d.lists) z lacks' rooms' nodes None) where
+    growing_cells : AreCells (length (with_more d u limit).demands) (length d.capacities)
+        (owners 0 d.lists) (joined d.lists)
     growing_cells = rw (length-set d.demands u (amount_at d.demands u +ℤ limit)) (cells_for d sound)
 
-    pub growing_pouring : IsPouring (with_more d u limit).demands d.capacities (owners 0 d.lists) (joined d.lists) y z lacks' rooms'
-    growing_pouring = raised.each (with_more d u limit).demands d.capacities y growing_cells (pouring_begun (with_more d u limit).demands d.capacities (owners 0 d.lists) (joined d.lists) y lacks rooms growing_part ll lr)
+    pub growing_pouring : IsPouring (with_more d u limit).demands d.capacities (owners 0 d.lists)
+        (joined d.lists) y z lacks' rooms'
+    growing_pouring = raised.each (with_more d u limit).demands d.capacities y growing_cells
+        (pouring_begun (with_more d u limit).demands d.capacities (owners 0 d.lists)
+        (joined d.lists) y lacks rooms growing_part ll lr)
 
-    pub growing_filled : IsFilled (with_more d u limit).demands d.capacities (owners 0 d.lists) (joined d.lists) z (founds nodes)
-    growing_filled = stuck_filled (with_more d u limit).demands d.capacities (owners 0 d.lists) (joined d.lists) z lacks' rooms' nodes (founds nodes) growing_cells growing_pouring.part growing_pouring.lacks_are growing_pouring.rooms_are s.places s.begins s.ended (founds_are nodes)
+    pub growing_filled : IsFilled (with_more d u limit).demands d.capacities (owners 0 d.lists)
+        (joined d.lists) z (founds nodes)
+    growing_filled = stuck_filled (with_more d u limit).demands d.capacities (owners 0 d.lists)
+        (joined d.lists) z lacks' rooms' nodes (founds nodes) growing_cells growing_pouring.part
+        growing_pouring.lacks_are growing_pouring.rooms_are s.places s.begins s.ended
+        (founds_are nodes)
 
-  module _ (met : IsMet d.demands (owners 0 d.lists) y) (z : List ℤ) (t : List Bool) (pz : IsPart (with_more d u limit).demands d.capacities (owners 0 d.lists) (joined d.lists) z) (fz : IsFilled (with_more d u limit).demands d.capacities (owners 0 d.lists) (joined d.lists) z t)
-      (more : GetsMore (owners 0 d.lists) y z) (g : ℤ) (is : g ≡ (sum_at u (owners 0 d.lists) z -ℤ amount_at d.demands u)) where
+  module _ (met : IsMet d.demands (owners 0 d.lists) y) (z : List ℤ) (t : List Bool)
+      (pz : IsPart (with_more d u limit).demands d.capacities (owners 0 d.lists) (joined d.lists) z)
+      (fz : IsFilled (with_more d u limit).demands d.capacities (owners 0 d.lists) (joined d.lists)
+      z t)
+      (more : GetsMore (owners 0 d.lists) y z) (g : ℤ)
+      (is : g ≡ (sum_at u (owners 0 d.lists) z -ℤ amount_at d.demands u)) where
     abbrev asked : ℤ → List ℤ
     asked b = (with_more d u b).demands
 
@@ -104,7 +128,8 @@ module _ (d : Demands) (sound : AreDemands d) (u : ℕ) (lu : u < length d.deman
           let p = pz.got i (omega (arith, lt, lg, ll)) in
           ⊎_elim
           (λ (q : i ≡ u). let h = gets i q in omega (arith, ints, h))
-          (λ ne. let a = at_other g i ne in let b = at_other limit i ne in omega (arith, ints, p, a, b))
+          (λ ne. let a = at_other g i ne in let b = at_other limit i
+          ne in omega (arith, ints, p, a, b))
           (cases_eq i u);
       within = pz.within;
     }
@@ -114,20 +139,30 @@ module _ (d : Demands) (sound : AreDemands d) (u : ℕ) (lu : u < length d.deman
         let lg = places g in
         ⊎_elim
         (λ (q : i ≡ u). let h = gets i q in omega (arith, ints, h))
-        (λ ne. let m = met i (omega (arith, lt, lg)) in let a = at_other g i ne in let r = more i in omega (arith, ints, m, a, r))
+        (λ ne. let m = met i (omega (arith, lt, lg)) in let a = at_other g i ne in let r = more
+        i in omega (arith, ints, m, a, r))
         (cases_eq i u)
 
     pub grown_most : IsMostUpto d u limit g
     grown_most = record {
       low = (let m = met u lu in let r = more u in omega (arith, ints, m, r, is));
-      high = (let l = places limit in let p = pz.got u (omega (arith, l, lu)) in let e = at_u limit in omega (arith, ints, p, e, is));
-      reached = (cut d.lists z, split_of_part (asked g) d.lists d.capacities z (sound.same ∙ sym (places g)) grown_part grown_met);
+      high = (let l = places limit in let p = pz.got u (omega (arith, l, lu)) in let e = at_u
+          limit in omega (arith, ints, p, e, is));
+      reached = (
+        cut d.lists z,
+        split_of_part (asked g) d.lists d.capacities z
+            (sound.same ∙ sym (places g)) grown_part grown_met,
+      );
       greatest = λ b some le can.
           let l = places limit in
           let e = at_u limit in
           ⊎_elim
           (λ has.
-          let h = most_of_closed (asked limit) d.capacities d.lists z (sound.same ∙ sym (places limit)) sound.exist pz t fz.places fz.closed u has (amount_at d.demands u +ℤ b) (rw (set-set d.demands u (amount_at d.demands u +ℤ limit) (amount_at d.demands u +ℤ b)) can) in
+          let h = most_of_closed (asked limit) d.capacities d.lists z
+          (sound.same ∙ sym (places limit)) sound.exist pz t fz.places fz.closed u has
+          (amount_at d.demands u +ℤ b)
+          (rw (set-set d.demands u (amount_at d.demands u +ℤ limit)
+          (amount_at d.demands u +ℤ b)) can) in
           omega (arith, ints, h, is))
           (λ out. by_lt_z (sum_at u (owners 0 d.lists) z) (amount_at (asked limit) u)
           (λ less. absurd (false≢true (sym out ∙ fz.lacking u (omega (arith, lu, l)) less)))
@@ -136,7 +171,9 @@ module _ (d : Demands) (sound : AreDemands d) (u : ℕ) (lu : u < length d.deman
     }
 
 -- and so it stays an amount
-pub grown_amount : (d : Demands) → AreDemands d → (u : ℕ) → u < length d.demands → (limit g : ℤ) → IsAmount (amount_at d.demands u +ℤ limit) → IsMostUpto d u limit g → IsAmount (amount_at d.demands u +ℤ g)
+pub grown_amount : (d : Demands) → AreDemands d → (u : ℕ) → u < length d.demands → (limit g : ℤ)
+    → IsAmount (amount_at d.demands u +ℤ limit) → IsMostUpto d u limit g
+    → IsAmount (amount_at d.demands u +ℤ g)
 grown_amount d sound u lu limit g top most =
     let a = amounts_low d sound u lu in
     let low = most.low in
@@ -145,14 +182,16 @@ grown_amount d sound u lu limit g top most =
     record { low = omega (arith, ints, a, low); high = omega (arith, ints, high, t) }
 
 -- u is raised as far as it goes, and what is left tells by how much
-pub record IsRaisedMost (d : Demands) (whos slots : List ℕ) (u : ℕ) (limit : ℤ) (z lacks rooms : List ℤ) : Type 0 where
+pub record IsRaisedMost (d : Demands) (whos slots : List ℕ) (u : ℕ) (limit : ℤ)
+    (z lacks rooms : List ℤ) : Type 0 where
   pub places : length lacks ≡ length d.demands
   pub low : pos 0 ≤ℤ amount_at lacks u
   pub high : amount_at lacks u ≤ℤ limit
   pub grown : IsGrown d whos slots z rooms u limit (limit -ℤ amount_at lacks u)
 
 -- the same for the cells of a split
-module _ (d : Demands) (whos slots : List ℕ) (y before rooms : List ℤ) (u : ℕ) (limit : ℤ) (h : MayGrow d whos slots y before rooms u limit) where
+module _ (d : Demands) (whos slots : List ℕ) (y before rooms : List ℤ) (u : ℕ) (limit : ℤ)
+    (h : MayGrow d whos slots y before rooms u limit) where
   part0 : IsPart d.demands d.capacities (owners 0 d.lists) (joined d.lists) y
   part0 = rw (h.met.in_order, h.met.in_lists) at h.met.part
 
@@ -182,21 +221,27 @@ module _ (d : Demands) (whos slots : List ℕ) (y before rooms : List ℤ) (u : 
     rooms_are = rooms0;
   })
 
-  module _ (z lacks' rooms' : List ℤ) (nodes : List (Option Node)) (raised : AreRaised whos slots y (set before u limit) rooms z lacks' rooms') (s : IsSearch whos slots z lacks' rooms' nodes None) where
-    raised0 : AreRaised (owners 0 d.lists) (joined d.lists) y (set before u limit) rooms z lacks' rooms'
+  module _ (z lacks' rooms' : List ℤ) (nodes : List (Option Node))
+      (raised : AreRaised whos slots y (set before u limit) rooms z lacks' rooms')
+      (s : IsSearch whos slots z lacks' rooms' nodes None) where
+    raised0 : AreRaised (owners 0 d.lists) (joined d.lists) y (set before u limit) rooms z lacks'
+        rooms'
     raised0 = rw (h.met.in_order, h.met.in_lists) at raised
 
     search0 : IsSearch (owners 0 d.lists) (joined d.lists) z lacks' rooms' nodes None
     search0 = rw (h.met.in_order, h.met.in_lists) at s
 
-    pouring : IsPouring (with_more d u limit).demands d.capacities (owners 0 d.lists) (joined d.lists) y z lacks' rooms'
-    pouring = growing_pouring d h.sound u h.place limit h.low y part0 (set before u limit) rooms z lacks' rooms' nodes lacks0 rooms0 raised0 search0
+    pouring : IsPouring (with_more d u limit).demands d.capacities (owners 0 d.lists)
+        (joined d.lists) y z lacks' rooms'
+    pouring = growing_pouring d h.sound u h.place limit h.low y part0 (set before u limit) rooms z
+        lacks' rooms' nodes lacks0 rooms0 raised0 search0
 
     may_places : length lacks' ≡ length d.demands
     may_places = pouring.lacks_are.places ∙ length-set d.demands u (amount_at d.demands u +ℤ limit)
 
     -- what u lacks in the end
-    lacking : amount_at lacks' u ≡ ((amount_at d.demands u +ℤ limit) -ℤ sum_at u (owners 0 d.lists) z)
+    lacking : amount_at lacks' u ≡ ((amount_at d.demands u +ℤ limit) -ℤ sum_at u (owners 0 d.lists)
+        z)
     lacking =
         let e = changed-at d.demands u h.place (amount_at d.demands u +ℤ limit) in
         let l = length-set d.demands u (amount_at d.demands u +ℤ limit) in
@@ -217,7 +262,15 @@ module _ (d : Demands) (whos slots : List ℕ) (y before rooms : List ℤ) (u : 
 
     grown : IsGrown d whos slots z rooms' u limit (limit -ℤ amount_at lacks' u)
     grown = record {
-      met = record { in_order = h.met.in_order; in_lists = h.met.in_lists; part = rw (h.met.in_order, h.met.in_lists) (grown_part d h.sound u h.place limit h.low y part0 met0 z (founds nodes) pouring.part filled pouring.more more told); met = rw h.met.in_order (grown_met d h.sound u h.place limit h.low y part0 met0 z (founds nodes) pouring.part filled pouring.more more told) };
+      met = record {
+        in_order = h.met.in_order;
+        in_lists = h.met.in_lists;
+        part = rw (h.met.in_order, h.met.in_lists)
+            (grown_part d h.sound u h.place limit h.low y part0 met0 z (founds nodes) pouring.part
+            filled pouring.more more told);
+        met = rw h.met.in_order (grown_met d h.sound u h.place limit h.low y part0 met0 z
+            (founds nodes) pouring.part filled pouring.more more told);
+      };
       left = rw h.met.in_lists pouring.rooms_are;
       amount = grown_amount d h.sound u h.place limit more h.small most;
       most = most;
@@ -228,11 +281,14 @@ module _ (d : Demands) (whos slots : List ℕ) (y before rooms : List ℤ) (u : 
       told : more ≡ (sum_at u (owners 0 d.lists) z -ℤ amount_at d.demands u)
       told = let k = lacking in omega (arith, ints, k)
 
-      filled : IsFilled (with_more d u limit).demands d.capacities (owners 0 d.lists) (joined d.lists) z (founds nodes)
-      filled = growing_filled d h.sound u h.place limit h.low y part0 (set before u limit) rooms z lacks' rooms' nodes lacks0 rooms0 raised0 search0
+      filled : IsFilled (with_more d u limit).demands d.capacities (owners 0 d.lists)
+          (joined d.lists) z (founds nodes)
+      filled = growing_filled d h.sound u h.place limit h.low y part0 (set before u limit) rooms z
+          lacks' rooms' nodes lacks0 rooms0 raised0 search0
 
       most : IsMostUpto d u limit more
-      most = grown_most d h.sound u h.place limit h.low y part0 met0 z (founds nodes) pouring.part filled pouring.more more told
+      most = grown_most d h.sound u h.place limit h.low y part0 met0 z (founds nodes) pouring.part
+          filled pouring.more more told
 
     pub may_grow : IsRaisedMost d whos slots u limit z lacks' rooms'
     may_grow = record { places = may_places; low = may_lack.0; high = may_lack.1; grown = grown }

@@ -1,4 +1,5 @@
--- Amounts that may be too much for demands and capacities, how they are lowered, and what other totals they are brought within.
+-- Amounts that may be too much for demands and capacities, how they are lowered, and what other
+-- totals they are brought within.
 use Rattle.std.specs.Prelude.{◌≡◌, ℕ, ◌^◌, List, length, slice_set, ℤ, pos, ◌+ℤ◌, ◌≤ℤ◌}
 use Rattle.std.specs.List.{All}
 use Rattle.sfm_cells.specs.Splits.{amount_at, IsAmount, IsCapacity}
@@ -8,8 +9,10 @@ use Rattle.sfm_split.specs.Sides.{of_side}
 use Rattle.sfm_split.specs.declared.lower.Side.{Side}
 use Rattle.sfm_split.specs.declared.lower.Side.TheVariants.{Demands, Slots}
 
--- amounts on cells, not negative, and what they leave of demands and of capacities: below nothing where they are too much
-pub record IsCharge (demands capacities : List ℤ) (whos slots : List ℕ) (y lacks rooms : List ℤ) : Type 0 where
+-- amounts on cells, not negative, and what they leave of demands and of capacities: below nothing
+-- where they are too much
+pub record IsCharge (demands capacities : List ℤ) (whos slots : List ℕ)
+    (y lacks rooms : List ℤ) : Type 0 where
   pub cells : length y ≡ length whos
   pub amounts : (e : ℕ) → pos 0 ≤ℤ amount_at y e
   pub lacks_are : AreLeft demands whos y lacks
@@ -31,14 +34,20 @@ pub record AreCharged (whos slots : List ℕ) (y lacks rooms : List ℤ) : Type 
   pub rooms_small : AreSmall rooms
 
 -- amounts are lowered, and what they leave rises: whatever demands and capacities it is left of
-pub record AreLowered (whos slots : List ℕ) (y lacks rooms z lacks_after rooms_after : List ℤ) : Type 0 where
-  pub each : (demands capacities : List ℤ) → AreCells (length demands) (length capacities) whos slots → IsCharge demands capacities whos slots y lacks rooms → IsCharge demands capacities whos slots z lacks_after rooms_after
+pub record AreLowered (whos slots : List ℕ) (y lacks rooms z lacks_after rooms_after : List ℤ)
+    : Type 0 where
+  pub each : (demands capacities : List ℤ)
+      → AreCells (length demands) (length capacities) whos slots
+      → IsCharge demands capacities whos slots y lacks rooms
+      → IsCharge demands capacities whos slots z lacks_after rooms_after
   pub falls : (e : ℕ) → amount_at z e ≤ℤ amount_at y e
   pub lacks_rise : (i : ℕ) → amount_at lacks i ≤ℤ amount_at lacks_after i
   pub rooms_rise : (s : ℕ) → amount_at rooms s ≤ℤ amount_at rooms_after s
 
--- amounts on cells within demands and capacities, which are within their own bounds, and what they leave of both
-pub record IsStanding (demands capacities : List ℤ) (whos slots : List ℕ) (y lacks rooms : List ℤ) : Type 0 where
+-- amounts on cells within demands and capacities, which are within their own bounds, and what they
+-- leave of both
+pub record IsStanding (demands capacities : List ℤ) (whos slots : List ℕ)
+    (y lacks rooms : List ℤ) : Type 0 where
   pub cells : AreCells (length demands) (length capacities) whos slots
   pub asked : All IsAmount demands
   pub bounded : All IsCapacity capacities

@@ -6,8 +6,10 @@ use Rattle.sfm_cells.specs.Cells.{AreCells, IsPart, IsMet, IsLacking}
 use Rattle.sfm_cells.specs.Left.{AreLeft}
 use Rattle.sfm_split.specs.Search.{GetsMore}
 
--- amounts by which no demand gets less than before, and what they leave of demands and of capacities
-pub record IsPouring (demands capacities : List ℤ) (whos slots : List ℕ) (y z lacks rooms : List ℤ) : Type 0 where
+-- amounts by which no demand gets less than before, and what they leave of demands and of
+-- capacities
+pub record IsPouring (demands capacities : List ℤ) (whos slots : List ℕ)
+    (y z lacks rooms : List ℤ) : Type 0 where
   pub part : IsPart demands capacities whos slots z
   pub more : GetsMore whos y z
   pub lacks_are : AreLeft demands whos z lacks
@@ -23,10 +25,19 @@ pub record AreWithin (whos slots : List ℕ) (y lacks rooms : List ℤ) : Type 0
   pub lacks_are : AreLeft demands whos y lacks
   pub rooms_are : AreLeft capacities slots y rooms
 
--- amounts are raised, and with them what they leave: whatever demands and capacities they were within, they still are, and no demand gets less
-pub record AreRaised (whos slots : List ℕ) (y lacks rooms z lacks_after rooms_after : List ℤ) : Type 0 where
-  pub each : (demands capacities before : List ℤ) → AreCells (length demands) (length capacities) whos slots → IsPouring demands capacities whos slots before y lacks rooms → IsPouring demands capacities whos slots before z lacks_after rooms_after
+-- amounts are raised, and with them what they leave: whatever demands and capacities they were
+-- within, they still are, and no demand gets less
+pub record AreRaised (whos slots : List ℕ) (y lacks rooms z lacks_after rooms_after : List ℤ) : Type
+    0 where
+  pub each : (demands capacities before : List ℤ)
+      → AreCells (length demands) (length capacities) whos slots
+      → IsPouring demands capacities whos slots before y lacks rooms
+      → IsPouring demands capacities whos slots before z lacks_after rooms_after
 
 -- no demand lacks anything; or some do, and the set is closed and has all of these
-pub record IsToldOf (whos slots : List ℕ) (z lacks rooms : List ℤ) (told : Option (List Bool)) : Type 0 where
-  pub each : (demands capacities before : List ℤ) → AreCells (length demands) (length capacities) whos slots → IsPouring demands capacities whos slots before z lacks rooms → MatchOption told (IsMet demands whos z) (IsLacking demands capacities whos slots z)
+pub record IsToldOf (whos slots : List ℕ) (z lacks rooms : List ℤ)
+    (told : Option (List Bool)) : Type 0 where
+  pub each : (demands capacities before : List ℤ)
+      → AreCells (length demands) (length capacities) whos slots
+      → IsPouring demands capacities whos slots before z lacks rooms
+      → MatchOption told (IsMet demands whos z) (IsLacking demands capacities whos slots z)

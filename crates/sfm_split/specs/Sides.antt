@@ -1,5 +1,5 @@
--- The two sides of an assignment: the demands with what they ask for, and the slots with their capacities. What is done for one side
--- is done for the other in the same way.
+-- The two sides of an assignment: the demands with what they ask for, and the slots with their
+-- capacities. What is done for one side is done for the other in the same way.
 use Rattle.sfm_split.specs.declared.lower.Side.{Side}
 use Rattle.sfm_split.specs.declared.lower.Side.TheVariants.{Demands, Slots}
 

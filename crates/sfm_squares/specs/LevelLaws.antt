@@ -12,15 +12,16 @@ pub record Rises (terms : List Meaning) (bases : List (List ℤ)) (first : ℕ) 
   pub rises : (base_sum_at terms bases first +ℤ pos 2)
       ≤ℤ base_sum_at terms bases (last_of first steps)
 
--- what bases of the terms add up to is a base of the sum, and a most level one exactly where no walk rises so
+-- what bases of the terms add up to is a base of the sum, and a most level one exactly where no
+-- walk rises so
 pub record LevelLaws (terms : List Meaning) (n : ℕ) (bases : List (List ℤ)) : Type 0 where
   pub sum : (z : List ℤ) → IsSumOf terms n bases z → IsSumBase terms n z
   pub exact : (z : List ℤ) → IsSumOf terms n bases z
       → IsLevel terms n z ↔ ((first : ℕ) (steps : List Step) → Rises terms bases first steps → ⊥)
 
--- along a shortest walk to any of some last places, from its last step to its first, each step can still move a
--- after the steps behind it have moved; what there is afterwards are bases, and their sum changes at the ends of
--- the walk alone
+-- along a shortest walk to any of some last places, from its last step to its first, each step can
+-- still move a after the steps behind it have moved; what there is afterwards are bases, and their
+-- sum changes at the ends of the walk alone
 pub record MoveLawsTo (terms : List Meaning) (q : ℤ) (before : List (List ℤ)) (first : ℕ)
     (steps : List Step) (a : ℤ) : Type 0 where
   pub in_order : (front back : List Step) (step : Step) (mid : List (List ℤ))

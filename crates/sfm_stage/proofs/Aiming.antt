@@ -28,18 +28,22 @@ aiming_none over levels = record {
 }
 
 -- those of one level more
-pub aiming_more : (over : Bits) (levels aims : List Bits) (aim met next : Bits) (k : ℕ) → IsAiming over levels aims aim k → k < length levels
-    → ((e : ℕ) → bit_in met e ≡ min (bit_in aim e) (bit_in (set_at levels k) e)) → IsAiming over levels (aims ++ met ∷ []) next (k + 1)
+pub aiming_more : (over : Bits) (levels aims : List Bits) (aim met next : Bits) (k : ℕ)
+    → IsAiming over levels aims aim k → k < length levels
+    → ((e : ℕ) → bit_in met e ≡ min (bit_in aim e) (bit_in (set_at levels k) e))
+    → IsAiming over levels (aims ++ met ∷ []) next (k + 1)
 aiming_more over levels aims aim met next k h lk meets = record {
   count = rw (length-append aims (met ∷ [])) (omega (arith, h.count));
   few = omega (arith, lk);
   within = λ j e l bit. ⊎_elim
       (λ lt. h.within j e lt (rw (old_at j lt) at bit))
-      (λ ge. let same : j ≡ k = omega (arith, ge, l) in rw same (in_level e (rw (same, new_at) at bit)))
+      (λ ge. let same : j ≡ k = omega (arith, ge, l) in rw same
+      (in_level e (rw (same, new_at) at bit)))
       (cases_lt j k);
   reached = λ e l bit. ⊎_elim
       (λ lt. h.reached e lt (rw (old_at 0 lt) at bit))
-      (λ ge. let zero' : k ≡ 0 = omega (arith, ge) in let one = in_aim e (rw (new_zero zero') at bit) in rw (h.begun zero') at one)
+      (λ ge. let zero' : k ≡ 0 = omega (arith, ge) in let one = in_aim e
+      (rw (new_zero zero') at bit) in rw (h.begun zero') at one)
       (cases_lt 0 k);
   begun = λ z. absurd (omega (arith, z));
 } where
@@ -53,12 +57,15 @@ aiming_more over levels aims aim met next k h lk meets = record {
   new_zero z = rw z at new_at
 
   in_aim : (e : ℕ) → bit_in met e ≡ 1 → bit_in aim e ≡ 1
-  in_aim e one = let m = meets e in let a = bit_in-lt aim e in let b = bit_in-lt (set_at levels k) e in omega (arith, m, a, b, one)
+  in_aim e one = let m = meets e in let a = bit_in-lt aim e in let b = bit_in-lt (set_at levels k)
+      e in omega (arith, m, a, b, one)
 
   in_level : (e : ℕ) → bit_in met e ≡ 1 → bit_in (set_at levels k) e ≡ 1
-  in_level e one = let m = meets e in let a = bit_in-lt aim e in let b = bit_in-lt (set_at levels k) e in omega (arith, m, a, b, one)
+  in_level e one = let m = meets e in let a = bit_in-lt aim e in let b = bit_in-lt (set_at levels k)
+      e in omega (arith, m, a, b, one)
 
-pub aiming_all : (over : Bits) (levels aims : List Bits) (aim : Bits) (k : ℕ) → IsAiming over levels aims aim k → length levels ≤ k → AreAims over levels aims
+pub aiming_all : (over : Bits) (levels aims : List Bits) (aim : Bits) (k : ℕ)
+    → IsAiming over levels aims aim k → length levels ≤ k → AreAims over levels aims
 aiming_all over levels aims aim k h all = record {
   count = let c = h.count in let f = h.few in omega (arith, c, f, all);
   within = λ j e l. h.within j e (let c = h.count in omega (arith, l, c));
@@ -66,8 +73,14 @@ aiming_all over levels aims aim k h all = record {
 }
 
 -- the first place of a walk is one of the last level
-pub first_is_top : {n : ℕ} {unions : List Bits} {z : List ℤ} {levels : List Bits} {first : ℕ} → IsFirst n unions z levels first → IsTop n levels first
-first_is_top h = record { below = h.levelled.below; apart = h.levelled.apart; further = h.further; last = h.last }
+pub first_is_top : {n : ℕ} {unions : List Bits} {z : List ℤ} {levels : List Bits} {first : ℕ}
+    → IsFirst n unions z levels first → IsTop n levels first
+first_is_top h = record {
+  below = h.levelled.below;
+  apart = h.levelled.apart;
+  further = h.further;
+  last = h.last;
+}
 
 -- it is a place of the ground
 pub top_in : {n : ℕ} {levels : List Bits} {first : ℕ} → IsTop n levels first → first < n

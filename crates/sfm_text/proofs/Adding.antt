@@ -24,7 +24,8 @@ abbrev pub IsNotLast : List ℕ → Type 0
 IsNotLast line = BeginsEnd (tokens_of line) → ⊥
 
 -- a term line does not
-pub term-not-last : (line : List ℕ) (word : TermWord) (rest : List (List ℕ)) → tokens_of line ≡ word_text word ∷ rest → IsNotLast line
+pub term-not-last : (line : List ℕ) (word : TermWord) (rest : List (List ℕ))
+    → tokens_of line ≡ word_text word ∷ rest → IsNotLast line
 term-not-last line word rest is (other, e) =
     let both : word_text word ∷ rest ≡ codes "end" ∷ other = sym is ∙ e in
     let same : word_text word ≡ codes "end" = cc in
@@ -40,22 +41,41 @@ module _ (i : InstanceData) (line : List ℕ) where
     as-line Word h = ((λ rest e. more (rest, e)), h)
     as-line _ h = h
 
-    pub term-refused : (end : LineEnd) → IsLineRefusal (state_at Terms i) line end → IsTermRefusal i line end
-    term-refused (Fault reason) f = record { holds = as-term reason f.holds; first = λ earlier lt h. f.first earlier lt (as-line earlier h) }
+    pub term-refused : (end : LineEnd) → IsLineRefusal (state_at Terms i) line end
+        → IsTermRefusal i line end
+    term-refused (Fault reason) f =
+        record {
+          holds = as-term reason f.holds;
+          first = λ earlier lt h. f.first earlier lt (as-line earlier h);
+        }
     term-refused Memory f = tt
 
-    pub line-refused : (end : LineEnd) → IsTermRefusal i line end → IsLineRefusal (state_at Terms i) line end
-    line-refused (Fault reason) f = record { holds = as-line reason f.holds; first = λ earlier lt h. f.first earlier lt (as-term earlier h) }
+    pub line-refused : (end : LineEnd) → IsTermRefusal i line end
+        → IsLineRefusal (state_at Terms i) line end
+    line-refused (Fault reason) f =
+        record {
+          holds = as-line reason f.holds;
+          first = λ earlier lt h. f.first earlier lt (as-term earlier h);
+        }
     line-refused Memory f = tt
 
-    pub term-added : (new : InstanceData) → Takes (state_at Terms i) line (state_at Terms new) → IsTermAdded i line new
-    term-added new takes = record { good = λ reason h. takes.good reason (as-line reason h); adds = at takes.adds } where
-      at : Adds Terms (state_at Terms i) (tokens_of line) (state_at Terms new) → AddsTerm (state_at Terms i) (tokens_of line) (state_at Terms new)
+    pub term-added : (new : InstanceData) → Takes (state_at Terms i) line (state_at Terms new)
+        → IsTermAdded i line new
+    term-added new takes = record {
+      good = λ reason h. takes.good reason (as-line reason h);
+      adds = at takes.adds;
+    } where
+      at : Adds Terms (state_at Terms i) (tokens_of line) (state_at Terms new)
+          → AddsTerm (state_at Terms i) (tokens_of line) (state_at Terms new)
       at (inl (last, is)) = absurd (more ([], last))
       at (inr adds) = adds
 
-  pub line-added : (new : InstanceData) → IsTermAdded i line new → Takes (state_at Terms i) line (state_at Terms new)
-  line-added new added = record { good = λ reason h. added.good reason (as-term reason h); adds = inr added.adds }
+  pub line-added : (new : InstanceData) → IsTermAdded i line new
+      → Takes (state_at Terms i) line (state_at Terms new)
+  line-added new added = record {
+    good = λ reason h. added.good reason (as-term reason h);
+    adds = inr added.adds;
+  }
 
   -- a bad byte comes before all else
   pub term-bytes : Any IsBadByte line → IsNoTerm i line Bytes
@@ -65,7 +85,9 @@ module _ (i : InstanceData) (line : List ℕ) where
     none _ lt h = absurd (omega (arith, lt))
 
   -- then comes the word
-  pub term-word : (Any IsBadByte line → ⊥) → ((word : TermWord) (rest : List (List ℕ)) → tokens_of line ≢ word_text word ∷ rest) → IsNoTerm i line Word
+  pub term-word : (Any IsBadByte line → ⊥)
+      → ((word : TermWord) (rest : List (List ℕ)) → tokens_of line ≢ word_text word ∷ rest)
+      → IsNoTerm i line Word
   term-word good wrong = record { holds = wrong; first = none } where
     none : (earlier : Reason) → reason_order earlier < 2 → HasAsTerm i line earlier → ⊥
     none Long lt h = h
@@ -73,12 +95,18 @@ module _ (i : InstanceData) (line : List ℕ) where
     none _ lt h = absurd (omega (arith, lt))
 
 -- so what comes of the tokens of a term line comes of the line
-pub judged-as : (i new : InstanceData) (line : List ℕ) (word : TermWord) (rest : List (List ℕ)) (result : Result (Unit {0}) LineEnd) → IsLineOf line (word_text word ∷ rest) → IsOutcome (state_at Terms i) (word_text word ∷ rest) result (state_at Terms new) → MatchResult result (λ _. IsTermAdded i line new) (IsTermRefusal i line)
-judged-as i new line word rest (Ok u) is outcome = term-added i line (term-not-last line word rest is.tokens_are) new (outcome line is)
-judged-as i new line word rest (Err end) is outcome = term-refused i line (term-not-last line word rest is.tokens_are) end (outcome line is)
+pub judged-as : (i new : InstanceData) (line : List ℕ) (word : TermWord) (rest : List (List ℕ))
+    (result : Result (Unit {0}) LineEnd) → IsLineOf line (word_text word ∷ rest)
+    → IsOutcome (state_at Terms i) (word_text word ∷ rest) result (state_at Terms new)
+    → MatchResult result (λ _. IsTermAdded i line new) (IsTermRefusal i line)
+judged-as i new line word rest (Ok u) is outcome =
+    term-added i line (term-not-last line word rest is.tokens_are) new (outcome line is)
+judged-as i new line word rest (Err end) is outcome =
+    term-refused i line (term-not-last line word rest is.tokens_are) end (outcome line is)
 
 -- whether the first token is `end`
-pub last-by : (tokens : List (List ℕ)) (word : List ℕ) (b : Bool) → slice_get tokens 0 ≡ Some word → b ≡ bytes_eq word (codes "end") → MatchBool b (BeginsEnd tokens) (BeginsEnd tokens → ⊥)
+pub last-by : (tokens : List (List ℕ)) (word : List ℕ) (b : Bool) → slice_get tokens 0 ≡ Some word
+    → b ≡ bytes_eq word (codes "end") → MatchBool b (BeginsEnd tokens) (BeginsEnd tokens → ⊥)
 last-by [] word b first is = cc
 last-by (token ∷ rest) word true first is =
     let same : token ≡ word = same_Some token word first in
@@ -90,17 +118,23 @@ last-by (token ∷ rest) word false first is = λ (other, e).
     false≢true (is ∙ (bytes_eq-Decides word (codes "end")).1 (sym same ∙ end))
 
 -- the line has no token but the first
-pub one-token : (tokens : List (List ℕ)) → length tokens ≤ 1 → BeginsEnd tokens → tokens ≡ codes "end" ∷ []
+pub one-token : (tokens : List (List ℕ)) → length tokens ≤ 1 → BeginsEnd tokens
+    → tokens ≡ codes "end" ∷ []
 one-token tokens few ([], e) = e
 one-token tokens few (other ∷ rest, e) = absurd (omega (arith, few, ap length e))
 
 -- it has more
-pub more-tokens : (tokens : List (List ℕ)) (word : List ℕ) → slice_get tokens 1 ≡ Some word → (rest : List (List ℕ)) → tokens ≡ codes "end" ∷ rest → rest ≢ []
+pub more-tokens : (tokens : List (List ℕ)) (word : List ℕ) → slice_get tokens 1 ≡ Some word
+    → (rest : List (List ℕ)) → tokens ≡ codes "end" ∷ rest → rest ≢ []
 more-tokens tokens word second rest e none =
     let within = slice_get_within tokens 1 word second in
     absurd (omega (arith, within, ap length e, ap length none))
 
 -- and what comes of a line that is not the last comes of it in a text
-pub line-judged : (i new : InstanceData) (line : List ℕ) → IsNotLast line → (result : Result (Unit {0}) LineEnd) → MatchResult result (λ _. IsTermAdded i line new) (IsTermRefusal i line) → MatchResult result (λ _. Takes (state_at Terms i) line (state_at Terms new)) (IsLineRefusal (state_at Terms i) line)
+pub line-judged : (i new : InstanceData) (line : List ℕ) → IsNotLast line
+    → (result : Result (Unit {0}) LineEnd)
+    → MatchResult result (λ _. IsTermAdded i line new) (IsTermRefusal i line)
+    → MatchResult result (λ _. Takes (state_at Terms i) line (state_at Terms new))
+    (IsLineRefusal (state_at Terms i) line)
 line-judged i new line more (Ok u) h = line-added i line new h
 line-judged i new line more (Err end) h = line-refused i line more end h

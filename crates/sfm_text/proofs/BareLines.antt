@@ -1,4 +1,5 @@
--- A rank line without the weights of its elements is a line of its own: of good bytes, and with no more of them in its tokens.
+-- A rank line without the weights of its elements is a line of its own: of good bytes, and with no
+-- more of them in its tokens.
 use Rattle.std.proofs.Common.{◌≡◌, ◌≢◌, ℕ, ◌+◌, ◌<◌, ◌≤◌, Bool, true, false, cond, List, [], ◌∷◌, ◌++◌, length, map, get_or, codes, Option, Some, None, inl, inr, refl, sym, ap, subst, ◌∙◌, arith, length-append}
 use Rattle.std.specs.List.{All, Any, AllZip, slice_split, onto_first}
 use Rattle.std.proofs.lemmas.List.{get_or_default}
@@ -24,8 +25,12 @@ IsGood text = All (λ c. IsBadByte c → ⊥) text
 
 good-onto : (x : ℕ) (pieces : List (List ℕ)) → (IsBadByte x → ⊥) → All IsGood pieces
     → All IsGood (onto_first x pieces)
-good-onto x [] is h = All-cons IsGood (x ∷ []) [] (All-cons (λ c. IsBadByte c → ⊥) x [] is (All-nil (λ c. IsBadByte c → ⊥))) (All-nil IsGood)
-good-onto x (piece ∷ pieces) is h = All-cons IsGood (x ∷ piece) pieces (All-cons (λ c. IsBadByte c → ⊥) x piece is (All-head IsGood piece pieces h)) (All-tail IsGood piece pieces h)
+good-onto x [] is h = All-cons IsGood (x ∷ []) []
+    (All-cons (λ c. IsBadByte c → ⊥) x [] is (All-nil (λ c. IsBadByte c → ⊥))) (All-nil IsGood)
+good-onto x (piece ∷ pieces) is h =
+    All-cons IsGood (x ∷ piece) pieces
+    (All-cons (λ c. IsBadByte c → ⊥) x piece is (All-head IsGood piece pieces h))
+    (All-tail IsGood piece pieces h)
 
 good-more : (b : Bool) (x : ℕ) (pieces : List (List ℕ)) → (IsBadByte x → ⊥) → All IsGood pieces
     → All IsGood (cond b ([] ∷ pieces) (onto_first x pieces))
@@ -34,13 +39,17 @@ good-more false x pieces is h = good-onto x pieces is h
 
 good-pieces : (xs : List ℕ) → IsGood xs → All IsGood (slice_split is_blank xs)
 good-pieces [] h = All-cons IsGood [] [] (All-nil (λ c. IsBadByte c → ⊥)) (All-nil IsGood)
-good-pieces (x ∷ xs) h = good-more (is_blank x) x (slice_split is_blank xs) (All-head (λ c. IsBadByte c → ⊥) x xs h) (good-pieces xs (All-tail (λ c. IsBadByte c → ⊥) x xs h))
+good-pieces (x ∷ xs) h = good-more (is_blank x) x (slice_split is_blank xs)
+    (All-head (λ c. IsBadByte c → ⊥) x xs h)
+    (good-pieces xs (All-tail (λ c. IsBadByte c → ⊥) x xs h))
 
 good-bytes : (line : List ℕ) → (Any IsBadByte line → ⊥) → IsGood line
-good-bytes line none = λ k d lt bad. none (k, get_or line k d, lt, sym (get_or_default line k d (get_or line k d) lt), bad)
+good-bytes line none = λ k d lt bad.
+    none (k, get_or line k d, lt, sym (get_or_default line k d (get_or line k d) lt), bad)
 
 good-tokens : (line : List ℕ) → (Any IsBadByte line → ⊥) → All IsGood (tokens_of line)
-good-tokens line none = All-filter has_bytes IsGood (slice_split is_blank line) (good-pieces line (good-bytes line none))
+good-tokens line none = All-filter has_bytes IsGood (slice_split is_blank line)
+    (good-pieces line (good-bytes line none))
 
 -- ---- a line with given tokens
 
@@ -65,59 +74,87 @@ star-good (tab, inr high) = omega (arith, high)
 
 bare-good : (tokens : List (List ℕ)) → All IsGood tokens → IsGood (bare_of tokens)
 bare-good [] h = All-nil (λ c. IsBadByte c → ⊥)
-bare-good (token ∷ tokens) h = All-append (λ c. IsBadByte c → ⊥) token (32 ∷ bare_of tokens) (All-head IsGood token tokens h)
-    (All-cons (λ c. IsBadByte c → ⊥) 32 (bare_of tokens) space-good (bare-good tokens (All-tail IsGood token tokens h)))
+bare-good (token ∷ tokens) h = All-append (λ c. IsBadByte c → ⊥) token (32 ∷ bare_of tokens)
+    (All-head IsGood token tokens h)
+    (All-cons (λ c. IsBadByte c → ⊥) 32 (bare_of tokens) space-good
+    (bare-good tokens (All-tail IsGood token tokens h)))
 
 -- ---- the tokens without weights
 
 All-front : {X : Type 0} (P : X → Type 0) (xs ys : List X) → All P (xs ++ ys) → All P xs
 All-front P [] ys h = All-nil P
-All-front P (x ∷ xs) ys h = All-cons P x xs (All-head P x (xs ++ ys) h) (All-front P xs ys (All-tail P x (xs ++ ys) h))
+All-front P (x ∷ xs) ys h = All-cons P x xs (All-head P x (xs ++ ys) h)
+    (All-front P xs ys (All-tail P x (xs ++ ys) h))
 
 All-behind : {X : Type 0} (P : X → Type 0) (xs ys : List X) → All P (xs ++ ys) → All P ys
 All-behind P [] ys h = h
 All-behind P (x ∷ xs) ys h = All-behind P xs ys (All-tail P x (xs ++ ys) h)
 
--- what holds of each token holds of each without weights, where it holds of what stands for an element
-module _ (P : List ℕ → Type 0) (kept : (token : List ℕ) (entry : List ℕ × Option (List ℕ)) → P token → IsWeighed token entry → P entry.0) where
-  entries-each : (marked : List (List ℕ)) (entries : List (List ℕ × Option (List ℕ))) → AllZip IsEntryOf marked entries
+-- what holds of each token holds of each without weights, where it holds of what stands for an
+-- element
+module _ (P : List ℕ → Type 0)
+    (kept : (token : List ℕ) (entry : List ℕ × Option (List ℕ)) → P token → IsWeighed token entry
+    → P entry.0) where
+  entries-each : (marked : List (List ℕ)) (entries : List (List ℕ × Option (List ℕ)))
+      → AllZip IsEntryOf marked entries
       → All P marked → All P (map (λ entry. entry.0) entries)
   entries-each [] [] each h = All-nil P
   entries-each [] (entry ∷ entries) each h = absurd each
   entries-each (token ∷ marked) [] each h = absurd each
-  entries-each (token ∷ marked) (entry ∷ entries) (is, each) h = All-cons P entry.0 (map (λ entry. entry.0) entries) (kept token entry (All-head P token marked h) is.0)
+  entries-each (token ∷ marked) (entry ∷ entries) (is, each) h =
+      All-cons P entry.0 (map (λ entry. entry.0) entries)
+      (kept token entry (All-head P token marked h) is.0)
       (entries-each marked entries each (All-tail P token marked h))
 
-  plain-each : (rest plain : List (List ℕ)) (entries : List (List ℕ × Option (List ℕ))) → IsUnweighed rest plain entries
+  plain-each : (rest plain : List (List ℕ)) (entries : List (List ℕ × Option (List ℕ)))
+      → IsUnweighed rest plain entries
       → All P rest → All P plain
   plain-each rest plain entries h all =
       let cut : All P (h.head ++ codes ":" ∷ (h.marked ++ h.behind)) = subst (All P) h.cut all in
       let from : All P (codes ":" ∷ (h.marked ++ h.behind)) = All-behind P h.head _ cut in
-      let elements : All P (h.marked ++ h.behind) = All-tail P (codes ":") (h.marked ++ h.behind) from in
-      let bare : All P (map (λ entry. entry.0) entries) = entries-each h.marked entries h.each (All-front P h.marked h.behind elements) in
+      let elements : All P (h.marked ++ h.behind) = All-tail P (codes ":") (h.marked ++ h.behind)
+      from in
+      let bare : All P (map (λ entry. entry.0) entries) = entries-each h.marked entries h.each
+      (All-front P h.marked h.behind elements) in
       subst (All P) (sym h.plain_are) (All-append P h.head _ (All-front P h.head _ cut)
       (All-cons P (codes ":") _ (All-head P (codes ":") (h.marked ++ h.behind) from)
-      (All-append P (map (λ entry. entry.0) entries) h.behind bare (All-behind P h.marked h.behind elements))))
+      (All-append P (map (λ entry. entry.0) entries) h.behind bare
+      (All-behind P h.marked h.behind elements))))
 
 -- what stands for an element has good bytes
-entry-good : (token : List ℕ) (entry : List ℕ × Option (List ℕ)) → IsGood token → IsWeighed token entry → IsGood entry.0
+entry-good : (token : List ℕ) (entry : List ℕ × Option (List ℕ)) → IsGood token
+    → IsWeighed token entry → IsGood entry.0
 entry-good token (x, None) good h = subst IsGood h.0 good
-entry-good token (x, Some w) good ([], cut, is) = subst IsGood (sym is) (All-cons (λ c. IsBadByte c → ⊥) 42 [] star-good (All-nil (λ c. IsBadByte c → ⊥)))
-entry-good token (x, Some w) good (c ∷ front, cut, is) = subst IsGood (sym (is ∙ not-empty (length (c ∷ front)) (codes "*") (c ∷ front) (omega arith))) (All-front (λ c. IsBadByte c → ⊥) (c ∷ front) (42 ∷ w) (subst IsGood cut.cut good))
+entry-good token (x, Some w) good ([], cut, is) =
+    subst IsGood (sym is) (All-cons (λ c. IsBadByte c → ⊥) 42 [] star-good
+    (All-nil (λ c. IsBadByte c → ⊥)))
+entry-good token (x, Some w) good (c ∷ front, cut, is) =
+    subst IsGood (sym (is ∙ not-empty (length (c ∷ front)) (codes "*") (c ∷ front) (omega arith)))
+    (All-front (λ c. IsBadByte c → ⊥) (c ∷ front) (42 ∷ w) (subst IsGood cut.cut good))
 
 -- so the line without weights is a line
-pub bare-line : (line : List ℕ) (rest plain : List (List ℕ)) (entries : List (List ℕ × Option (List ℕ)))
+pub bare-line : (line : List ℕ) (rest plain : List (List ℕ))
+    (entries : List (List ℕ × Option (List ℕ)))
     → IsLineOf line (word_text RankWord ∷ rest) → IsUnweighed rest plain entries
     → (bare : List ℕ) × IsLineOf bare (word_text RankWord ∷ plain)
 bare-line line rest plain entries is h =
-    let clean : All IsToken (word_text RankWord ∷ rest) = subst (All IsToken) is.tokens_are (tokens-clean line) in
-    let good : All IsGood (word_text RankWord ∷ rest) = subst (All IsGood) is.tokens_are (good-tokens line is.good_bytes) in
-    let tokens = plain-each IsToken entry-token rest plain entries h (All-tail IsToken (word_text RankWord) rest clean) in
-    let bytes = plain-each IsGood entry-good rest plain entries h (All-tail IsGood (word_text RankWord) rest good) in (
+    let clean : All IsToken (word_text RankWord ∷ rest) = subst (All IsToken) is.tokens_are
+    (tokens-clean line) in
+    let good : All IsGood (word_text RankWord ∷ rest) = subst (All IsGood) is.tokens_are
+    (good-tokens line is.good_bytes) in
+    let tokens = plain-each IsToken entry-token rest plain entries h
+    (All-tail IsToken (word_text RankWord) rest clean) in
+    let bytes = plain-each IsGood entry-good rest plain entries h
+    (All-tail IsGood (word_text RankWord) rest good) in (
       bare_of (word_text RankWord ∷ plain),
       record {
-        tokens_are = bare-tokens (word_text RankWord ∷ plain) (All-cons IsToken (word_text RankWord) plain (All-head IsToken (word_text RankWord) rest clean) tokens);
-        good_bytes = none-any IsBadByte (bare_of (word_text RankWord ∷ plain)) (bare-good (word_text RankWord ∷ plain) (All-cons IsGood (word_text RankWord) plain (All-head IsGood (word_text RankWord) rest good) bytes));
+        tokens_are = bare-tokens (word_text RankWord ∷ plain)
+            (All-cons IsToken (word_text RankWord) plain
+            (All-head IsToken (word_text RankWord) rest clean) tokens);
+        good_bytes = none-any IsBadByte (bare_of (word_text RankWord ∷ plain))
+            (bare-good (word_text RankWord ∷ plain)
+            (All-cons IsGood (word_text RankWord) plain
+            (All-head IsGood (word_text RankWord) rest good) bytes));
       },
     )
 
@@ -127,20 +164,32 @@ bytes-append : (a b : List (List ℕ)) → bytes_in (a ++ b) ≡ bytes_in a + by
 bytes-append [] b = omega arith
 bytes-append (text ∷ a) b = let rest = bytes-append a b in omega (arith, rest)
 
-entry-bytes : (token : List ℕ) (entry : List ℕ × Option (List ℕ)) → IsWeighed token entry → length entry.0 ≤ length token
+entry-bytes : (token : List ℕ) (entry : List ℕ × Option (List ℕ)) → IsWeighed token entry
+    → length entry.0 ≤ length token
 entry-bytes token (x, None) h = omega (arith, ap length h.0)
 entry-bytes token (x, Some w) ([], cut, is) = omega (arith, ap length is, ap length cut.cut)
-entry-bytes token (x, Some w) (c ∷ front, cut, is) = omega (arith, ap length (is ∙ not-empty (length (c ∷ front)) (codes "*") (c ∷ front) (omega arith)), ap length cut.cut, length-append (c ∷ front) (42 ∷ w))
+entry-bytes token (x, Some w) (c ∷ front, cut, is) =
+    omega (
+      arith,
+      ap length (is ∙ not-empty (length (c ∷ front)) (codes "*") (c ∷ front)
+          (omega arith)),
+      ap length cut.cut,
+      length-append (c ∷ front) (42 ∷ w),
+    )
 
-entries-bytes : (marked : List (List ℕ)) (entries : List (List ℕ × Option (List ℕ))) → AllZip IsEntryOf marked entries
+entries-bytes : (marked : List (List ℕ)) (entries : List (List ℕ × Option (List ℕ)))
+    → AllZip IsEntryOf marked entries
     → bytes_in (map (λ entry. entry.0) entries) ≤ bytes_in marked
 entries-bytes [] [] h = omega arith
 entries-bytes [] (entry ∷ entries) h = absurd h
 entries-bytes (token ∷ marked) [] h = absurd h
-entries-bytes (token ∷ marked) (entry ∷ entries) (is, h) = let one = entry-bytes token entry is.0 in let more = entries-bytes marked entries h in omega (arith, one, more)
+entries-bytes (token ∷ marked) (entry ∷ entries) (is, h) =
+    let one = entry-bytes token entry is.0 in let more = entries-bytes marked entries
+    h in omega (arith, one, more)
 
 -- the tokens without weights have no more bytes than with them
-pub plain-bytes : (rest plain : List (List ℕ)) (entries : List (List ℕ × Option (List ℕ))) → IsUnweighed rest plain entries
+pub plain-bytes : (rest plain : List (List ℕ)) (entries : List (List ℕ × Option (List ℕ)))
+    → IsUnweighed rest plain entries
     → bytes_in plain ≤ bytes_in rest
 plain-bytes rest plain entries h =
     let a = ap bytes_in h.cut in

@@ -17,21 +17,27 @@ width-is (suc n) m e = at (nat_eq (suc n) 0) refl
 
 -- what is past the shorter of two is past one of them
 pub past-min : (a b i : ℕ) → min a b ≤ i → (a ≤ i) ⊎ (b ≤ i)
-past-min a b i le = ⊎_elim (λ (lt : i < a). inr (omega (arith, le, lt))) (λ (ge : a ≤ i). inl ge) (cases_lt i a)
+past-min a b i le = ⊎_elim (λ (lt : i < a). inr (omega (arith, le, lt))) (λ (ge : a ≤ i). inl ge)
+    (cases_lt i a)
 
 next-line : (layers items : List ℕ) (i c d : ℕ) → i < length layers → i < length items
-    → for_terms (take (suc i) layers) (take (suc i) items) ≡ for_terms (take i layers) (take i items) ++ replicate (width_of (get_or layers i c)) (get_or items i d)
+    → for_terms (take (suc i) layers) (take (suc i) items) ≡ for_terms (take i layers)
+    (take i items) ++ replicate (width_of (get_or layers i c)) (get_or items i d)
 next-line [] items i c d lt within = absurd (omega (arith, lt))
 next-line (n ∷ layers) [] i c d lt within = absurd (omega (arith, within))
 next-line (n ∷ layers) (item ∷ items) zero c d lt within = append-nil (replicate (width_of n) item)
 next-line (n ∷ layers) (item ∷ items) (suc i) c d lt within =
     let rest = next-line layers items i c d (omega (arith, lt)) (omega (arith, within)) in
-    ap (λ (l : List ℕ). replicate (width_of n) item ++ l) rest ∙ sym (append_assoc (replicate (width_of n) item) (for_terms (take i layers) (take i items)) _)
+    ap (λ (l : List ℕ). replicate (width_of n) item ++ l) rest
+    ∙ sym (append_assoc (replicate (width_of n) item) (for_terms (take i layers) (take i items))
+    _)
 
 -- one more line
 pub for_terms-more : (layers items : List ℕ) (i c d : ℕ) → i < length layers → i < length items
-    → for_terms (take (i + 1) layers) (take (i + 1) items) ≡ for_terms (take i layers) (take i items) ++ replicate (width_of (get_or layers i c)) (get_or items i d)
-for_terms-more layers items i c d lt within = rw (add-one i) (next-line layers items i c d lt within)
+    → for_terms (take (i + 1) layers) (take (i + 1) items) ≡ for_terms (take i layers)
+    (take i items) ++ replicate (width_of (get_or layers i c)) (get_or items i d)
+for_terms-more layers items i c d lt within =
+    rw (add-one i) (next-line layers items i c d lt within)
 
 -- and all of them
 pub for_terms-all : (layers items : List ℕ) (i : ℕ) → (length layers ≤ i) ⊎ (length items ≤ i)
@@ -42,11 +48,16 @@ for_terms-all (n ∷ layers) [] zero past = refl
 for_terms-all (n ∷ layers) [] (suc i) past = refl
 for_terms-all (n ∷ layers) (item ∷ items) zero (inl past) = absurd (omega (arith, past))
 for_terms-all (n ∷ layers) (item ∷ items) zero (inr past) = absurd (omega (arith, past))
-for_terms-all (n ∷ layers) (item ∷ items) (suc i) (inl past) = ap (λ (l : List ℕ). replicate (width_of n) item ++ l) (for_terms-all layers items i (inl (omega (arith, past))))
-for_terms-all (n ∷ layers) (item ∷ items) (suc i) (inr past) = ap (λ (l : List ℕ). replicate (width_of n) item ++ l) (for_terms-all layers items i (inr (omega (arith, past))))
+for_terms-all (n ∷ layers) (item ∷ items) (suc i) (inl past) =
+    ap (λ (l : List ℕ). replicate (width_of n) item ++ l)
+    (for_terms-all layers items i (inl (omega (arith, past))))
+for_terms-all (n ∷ layers) (item ∷ items) (suc i) (inr past) =
+    ap (λ (l : List ℕ). replicate (width_of n) item ++ l)
+    (for_terms-all layers items i (inr (omega (arith, past))))
 
 -- there are as many as there are terms
-pub length-for_terms : (layers items : List ℕ) → length items ≡ length layers → length (for_terms layers items) ≡ terms_in layers
+pub length-for_terms : (layers items : List ℕ) → length items ≡ length layers
+    → length (for_terms layers items) ≡ terms_in layers
 length-for_terms [] [] e = refl
 length-for_terms [] (item ∷ items) e = absurd (omega (arith, e))
 length-for_terms (n ∷ layers) [] e = absurd (omega (arith, e))

@@ -56,7 +56,9 @@ meanings-by s t same forth back meant = (
 made-one : (word : TermWord) (parts : LineParts) (values : List ℤ) (s t : Kind)
     → kind_places s ≡ kind_places t → IsMadeOf word parts values s → IsMadeOf word parts values t
     → AreOneTerm s t
-made-one RankWord parts values s t same h g = rank-one s t (rank-made parts.rank parts values s h) (rank-made parts.rank parts values t g) (rank-alike parts.rank parts values s t same h g)
+made-one RankWord parts values s t same h g =
+    rank-one s t (rank-made parts.rank parts values s h) (rank-made parts.rank parts values t g)
+    (rank-alike parts.rank parts values s t same h g)
 made-one WeightWord parts values (Weight a) (Weight b) same h g =
     let weights : a.weights ≡ b.weights = h ∙ sym g in
     record {
@@ -64,7 +66,8 @@ made-one WeightWord parts values (Weight a) (Weight b) same h g =
       values = λ part len. rw weights refl;
       size = rw weights refl;
       starts = λ q. rw weights refl;
-      meanings = meanings-by (Weight a) (Weight b) same (λ f is. rw weights at is) (λ f is. rw (← weights) at is);
+      meanings = meanings-by (Weight a) (Weight b) same (λ f is. rw weights at is)
+          (λ f is. rw (← weights) at is);
     }
 made-one CutWord parts values (Cut a) (Cut b) same h g =
     let number : a.c ≡ b.c = same_first a.c b.c (h ∙ sym g) in
@@ -73,7 +76,8 @@ made-one CutWord parts values (Cut a) (Cut b) same h g =
       values = λ part len. rw number refl;
       size = number;
       starts = λ q. rw number refl;
-      meanings = meanings-by (Cut a) (Cut b) same (λ f is. rw number at is) (λ f is. rw (← number) at is);
+      meanings = meanings-by (Cut a) (Cut b) same (λ f is. rw number at is)
+          (λ f is. rw (← number) at is);
     }
 made-one NeedWord parts values (Need a) (Need b) same h g = record {
   places = same;
@@ -90,7 +94,8 @@ made-one CoverWord parts values (Cover a) (Cover b) same h g =
       values = λ part len. rw number refl;
       size = number;
       starts = λ q. rw (number, places) refl;
-      meanings = meanings-by (Cover a) (Cover b) same (λ f is. rw number at is) (λ f is. rw (← number) at is);
+      meanings = meanings-by (Cover a) (Cover b) same (λ f is. rw number at is)
+          (λ f is. rw (← number) at is);
     }
 made-one TableWord parts values (Table a) (Table b) same h g =
     let listed : a.values ≡ b.values = h ∙ sym g in
@@ -100,7 +105,8 @@ made-one TableWord parts values (Table a) (Table b) same h g =
       values = λ part len. rw listed refl;
       size = rw listed refl;
       starts = λ q. rw (listed, places) refl;
-      meanings = meanings-by (Table a) (Table b) same (λ f is. rw listed at is) (λ f is. rw (← listed) at is);
+      meanings = meanings-by (Table a) (Table b) same (λ f is. rw listed at is)
+          (λ f is. rw (← listed) at is);
     }
 made-one ConcaveWord parts values (Concave a) (Concave b) same h g =
     let listed : a.values ≡ b.values = h ∙ sym g in
@@ -110,7 +116,8 @@ made-one ConcaveWord parts values (Concave a) (Concave b) same h g =
       values = λ part len. rw listed refl;
       size = rw listed refl;
       starts = λ q. rw (listed, places) refl;
-      meanings = meanings-by (Concave a) (Concave b) same (λ f is. rw listed at is) (λ f is. rw (← listed) at is);
+      meanings = meanings-by (Concave a) (Concave b) same (λ f is. rw listed at is)
+          (λ f is. rw (← listed) at is);
     }
 made-one WeightWord parts values (Weight a) _ same h g = absurd g
 made-one CutWord parts values (Cut a) _ same h g = absurd g
@@ -120,27 +127,50 @@ made-one TableWord parts values (Table a) _ same h g = absurd g
 made-one ConcaveWord parts values (Concave a) _ same h g = absurd g
 made-one _ parts values _ _ same h g = absurd h
 
-pub stands-same : (version : Version) (names tokens : List (List ℕ)) (s t : Kind) → AllPairs (λ a b. a ≢ b) names
+pub stands-same : (version : Version) (names tokens : List (List ℕ)) (s t : Kind)
+    → AllPairs (λ a b. a ≢ b) names
     → StandsFor version names tokens s → StandsFor version names tokens t → AreOneTerm s t
 stands-same version names tokens s t distinct h g =
-    let P : TermWord → List (List ℕ) → LineParts → Type 0 = λ word rest parts. (values : List ℤ) × (places : List ℕ) × AllZip (IsNumberFor version word) parts.numbers values × AllZip (IsElement names) parts.elements places × IsTermOf word parts values places t in
-    let (values, places, numbers, elements, made) = of-term-line h.word tokens h.rest h.parts P h.shaped.0 h.shaped.1 (g.word, g.rest, g.parts, g.shaped, (g.values, g.places, g.numbers, g.elements, record { same_places = g.same_places; made = g.made })) in
-    let same_values : values ≡ h.values = AllZip-same (IsNumberFor version h.word) (from-same version h.word) h.parts.numbers values h.values numbers h.numbers in
-    let same_places : places ≡ h.places = AllZip-same (IsElement names) (place-same names distinct) h.parts.elements places h.places elements h.elements in
-    let made' : IsTermOf h.word h.parts h.values h.places t = rw (same_values, same_places) at made in
+    let P : TermWord → List (List ℕ) → LineParts → Type 0 = λ word rest parts. (values : List ℤ)
+    × (places : List ℕ) × AllZip (IsNumberFor version word) parts.numbers values
+    × AllZip (IsElement names) parts.elements places × IsTermOf word parts values places t in
+    let (values, places, numbers, elements, made) = of-term-line h.word tokens h.rest h.parts P
+    h.shaped.0 h.shaped.1 (
+      g.word,
+      g.rest,
+      g.parts,
+      g.shaped,
+      (
+        g.values,
+        g.places,
+        g.numbers,
+        g.elements,
+        record { same_places = g.same_places; made = g.made },
+      ),
+    ) in
+    let same_values : values ≡ h.values = AllZip-same (IsNumberFor version h.word)
+    (from-same version h.word) h.parts.numbers values h.values numbers h.numbers in
+    let same_places : places ≡ h.places = AllZip-same (IsElement names) (place-same names distinct)
+    h.parts.elements places h.places elements h.elements in
+    let made' : IsTermOf h.word h.parts h.values h.places t = rw (same_values, same_places) at
+    made in
     made-one h.word h.parts h.values s t (h.same_places ∙ sym made'.same_places) h.made made'.made
 
 -- so there is too much with the one where there is with the other
-pub much-same : (version : Version) (lines : List ℕ) (terms : List Kind) (s t : Kind) (places : ℕ) (total : ℤ) → AreOneTerm s t → Brings t None places total
-    → AreTooMuch version lines terms places total → AreTooMuch version lines terms (length (kind_places s)) (kind_size s)
+pub much-same : (version : Version) (lines : List ℕ) (terms : List Kind) (s t : Kind) (places : ℕ)
+    (total : ℤ) → AreOneTerm s t → Brings t None places total
+    → AreTooMuch version lines terms places total
+    → AreTooMuch version lines terms (length (kind_places s)) (kind_size s)
 much-same version lines terms s t places total same brings much =
     let b = brings-same t places total brings in
     let count : places ≡ length (kind_places s) = b.0 ∙ sym (ap length same.places) in
     let size : total ≡ kind_size s = b.1 ∙ sym same.size in
-    subst (λ (z : ℤ). AreTooMuch version lines terms (length (kind_places s)) z) size (subst (λ (n : ℕ). AreTooMuch version lines terms n total) count much)
+    subst (λ (z : ℤ). AreTooMuch version lines terms (length (kind_places s)) z) size
+    (subst (λ (n : ℕ). AreTooMuch version lines terms n total) count much)
 
 -- the places of the term are places of the ground
-pub stands-placed : (version : Version) (names tokens : List (List ℕ)) (term : Kind) → StandsFor version names tokens term
+pub stands-placed : (version : Version) (names tokens : List (List ℕ)) (term : Kind)
+    → StandsFor version names tokens term
     → IsPlaced (length names) (kind_places term)
 stands-placed version names tokens term h =
     let is : kind_places term ≡ h.places = h.same_places in
@@ -148,14 +178,19 @@ stands-placed version names tokens term h =
     record {
       below = λ j lt.
           let within : j < length h.places = omega (arith, lt, ap length is) in
-          let at : get_or (kind_places term) j 0 ≡ get_or h.places j 0 = ap (λ (l : List ℕ). get_or l j 0) is in
-          rw at (slice_get_within names (get_or h.places j 0) (get_or h.parts.elements j []) (AllZip-both (IsElement names) h.parts.elements h.places j [] 0 h.elements (omega (arith, within, n))));
+          let at : get_or (kind_places term) j 0 ≡ get_or h.places j
+          0 = ap (λ (l : List ℕ). get_or l j 0) is in
+          rw at (slice_get_within names (get_or h.places j 0) (get_or h.parts.elements j [])
+          (AllZip-both (IsElement names) h.parts.elements h.places j [] 0 h.elements
+          (omega (arith, within, n))));
       distinct = ((kind-elements term).placed).distinct;
     }
 
 -- a term that is not too much keeps the bounds
-pub bounded-more : (n : ℕ) (version : Version) (lines : List ℕ) (terms : List Kind) (term : Kind) → AreInBounds n terms
-    → IsPlaced n (kind_places term) → (AreTooMuch version lines terms (length (kind_places term)) (kind_size term) → ⊥)
+pub bounded-more : (n : ℕ) (version : Version) (lines : List ℕ) (terms : List Kind) (term : Kind)
+    → AreInBounds n terms
+    → IsPlaced n (kind_places term)
+    → (AreTooMuch version lines terms (length (kind_places term)) (kind_size term) → ⊥)
     → AreInBounds n (terms ++ term ∷ [])
 bounded-more n version lines terms term h placed few =
     let all : support_of terms + length (kind_places term) ≤ 16384 = ⊎_elim
@@ -168,5 +203,7 @@ bounded-more n version lines terms term h placed few =
     in_bounds-push n terms term h placed (record {
       few_terms = omega (arith, all, one, each);
       few_places = all;
-      small = by_lt_z (most_size version) (total_size_of terms +ℤ kind_size term) (λ lt. absurd (few (much-by-total version lines terms (length (kind_places term)) (kind_size term) lt))) (λ le. omega (arith, ints, le, most));
+      small = by_lt_z (most_size version) (total_size_of terms +ℤ kind_size term)
+          (λ lt. absurd (few (much-by-total version lines terms (length (kind_places term))
+          (kind_size term) lt))) (λ le. omega (arith, ints, le, most));
     })

@@ -41,8 +41,10 @@ pub most_size-high : (version : Version) → most_size version ≤ℤ pos (10 ^ 
 most_size-high First = omega (arith, ints)
 most_size-high Second = omega (arith, ints)
 
-pub support-cons : (term : Kind) (terms : List Kind) → support_of (term ∷ terms) ≡ length (kind_places term) + support_of terms
-support-cons term terms = sum_by-cons (λ (n : ℕ). n) (length (kind_places term)) (map length (map kind_places terms))
+pub support-cons : (term : Kind) (terms : List Kind)
+    → support_of (term ∷ terms) ≡ length (kind_places term) + support_of terms
+support-cons term terms = sum_by-cons (λ (n : ℕ). n) (length (kind_places term))
+    (map length (map kind_places terms))
 
 -- each term has a place
 pub terms-few : (terms : List Kind) → length terms ≤ support_of terms
@@ -53,18 +55,26 @@ terms-few (term ∷ terms) =
     let all = support-cons term terms in
     omega (arith, some, few, all)
 
--- the sizes are too much by the meanings of the terms exactly where they are by what the terms tell of themselves
-pub much-by-total : (version : Version) (lines : List ℕ) (terms : List Kind) (places : ℕ) (size : ℤ) → most_size version <ℤ (total_size_of terms +ℤ size) → AreTooMuch version lines terms places size
+-- the sizes are too much by the meanings of the terms exactly where they are by what the terms tell
+-- of themselves
+pub much-by-total : (version : Version) (lines : List ℕ) (terms : List Kind) (places : ℕ) (size : ℤ)
+    → most_size version <ℤ (total_size_of terms +ℤ size)
+    → AreTooMuch version lines terms places size
 much-by-total version lines terms places size much =
     let meant : List Meaning = meanings kind_places kind_value terms in
     let same = total-size terms meant (kinds-mean terms) in
     inr (inr (meant, kinds-mean terms, omega (arith, ints, much, same)))
 
-pub total-by-much : (limit : ℤ) (terms : List Kind) (meant : List Meaning) (size : ℤ) → AllZip IsMeaningOf terms meant → limit <ℤ (total_by terms meant +ℤ size) → limit <ℤ (total_size_of terms +ℤ size)
-total-by-much limit terms meant size means much = let same = total-size terms meant means in omega (arith, ints, much, same)
+pub total-by-much : (limit : ℤ) (terms : List Kind) (meant : List Meaning) (size : ℤ)
+    → AllZip IsMeaningOf terms meant → limit <ℤ (total_by terms meant +ℤ size)
+    → limit <ℤ (total_size_of terms +ℤ size)
+total-by-much limit terms meant size means much =
+    let same = total-size terms meant means in omega (arith, ints, much, same)
 
 -- the room that is left for sizes is kept as it is
-pub kept-room : (n : ℕ) (version : Version) (terms : List Kind) (limit total : ℤ) → AreInBounds n terms → limit ≡ most_size version → total ≡ total_size_of terms → FitsSigned w128 (to_z w128 (of_z w128 limit) -ℤ to_z w128 (of_z w128 total))
+pub kept-room : (n : ℕ) (version : Version) (terms : List Kind) (limit total : ℤ)
+    → AreInBounds n terms → limit ≡ most_size version → total ≡ total_size_of terms
+    → FitsSigned w128 (to_z w128 (of_z w128 limit) -ℤ to_z w128 (of_z w128 total))
 kept-room n version terms limit total h is e =
     let a = most_size-low version in
     let b = most_size-high version in
@@ -75,8 +85,13 @@ from_less : (a b : ℤ) → a <ℤ b → lt_z a b ≡ true
 from_less a b h = grind (arith, ints)
 
 -- the test on the size decides where there is room for the line and its places
-pub much-by-size : (n : ℕ) (version : Version) (lines : List ℕ) (terms : List Kind) (places : ℕ) (limit total size : ℤ) → AreInBounds n terms → limit ≡ most_size version → total ≡ total_size_of terms → FitsSigned w128 size → length lines < 4096 → support_of terms + places ≤ 16384
-    → IsTrue (lt_z (to_z w128 (of_z w128 (to_z w128 (of_z w128 limit) -ℤ to_z w128 (of_z w128 total)))) (to_z w128 (of_z w128 size))) ↔ AreTooMuch version lines terms places size
+pub much-by-size : (n : ℕ) (version : Version) (lines : List ℕ) (terms : List Kind) (places : ℕ)
+    (limit total size : ℤ) → AreInBounds n terms → limit ≡ most_size version
+    → total ≡ total_size_of terms → FitsSigned w128 size → length lines < 4096
+    → support_of terms + places ≤ 16384
+    → IsTrue (lt_z
+    (to_z w128 (of_z w128 (to_z w128 (of_z w128 limit) -ℤ to_z w128 (of_z w128 total))))
+    (to_z w128 (of_z w128 size))) ↔ AreTooMuch version lines terms places size
 much-by-size n version lines terms places limit total size h is e small few room =
     let a = most_size-low version in
     let b = most_size-high version in
@@ -84,7 +99,16 @@ much-by-size n version lines terms places limit total size h is e small few room
     let same : to_z w128 (of_z w128 size) ≡ size = omega (arith, ints, small) in
     let most : to_z w128 (of_z w128 limit) ≡ limit = omega (arith, ints, is, a, b) in
     let kept : to_z w128 (of_z w128 total) ≡ total = omega (arith, ints, e, l, h.small) in
-    let left : to_z w128 (of_z w128 (limit -ℤ total)) ≡ limit -ℤ total = omega (arith, ints, is, e, a, b, l, h.small) in
+    let left : to_z w128 (of_z w128 (limit -ℤ total)) ≡ limit -ℤ total = omega (
+      arith,
+      ints,
+      is,
+      e,
+      a,
+      b,
+      l,
+      h.small,
+    ) in
     rw (most, kept, left, same) (
       λ t. much-by-total version lines terms places size (omega (arith, ints, is, e, t)),
       λ m. by_much m,

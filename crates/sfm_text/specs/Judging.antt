@@ -13,9 +13,11 @@ use Rattle.sfm_text.specs.declared.reading.Reading.{Reading}
 abbrev pub state_of : Reading → State
 state_of reading = state_at reading.stage reading.instance
 
--- a line with these tokens was taken in the state s and led to t, or is refused for its first reason
+-- a line with these tokens was taken in the state s and led to t, or is refused for its first
+-- reason
 abbrev pub IsOutcome : State → List (List ℕ) → Result (Unit {0}) LineEnd → State → Type 0
-IsOutcome s tokens result t = (line : List ℕ) → IsLineOf line tokens → MatchResult result (λ _. Takes s line t) (IsLineRefusal s line)
+IsOutcome s tokens result t = (line : List ℕ) → IsLineOf line tokens
+    → MatchResult result (λ _. Takes s line t) (IsLineRefusal s line)
 
 -- the names of a ground line have no reason
 pub record AreGroundNames (names : List (List ℕ)) : Type 0 where

@@ -3,23 +3,27 @@ use Rattle.std.specs.Prelude.{◌≡◌, ℕ, ◌+◌, ◌≤◌, not, List, [],
 use Rattle.std.specs.Str.Lines.{strip_carriage_return}
 use Rattle.sfm_lines.specs.Lines.{pieces_of, without_empty_last, tokens_of, are_skipped}
 
--- a line of a text: its number, counted from 1, the place in the text at which it begins, and its bytes
+-- a line of a text: its number, counted from 1, the place in the text at which it begins, and its
+-- bytes
 pub record TextLine : Type 0 where
   pub number : ℕ
   pub start : ℕ
   pub bytes : List ℕ
 
--- a line for each piece: each is numbered by one more than the one before, begins behind the byte at which that one
--- ends, and does not hold a carriage return at its own end
+-- a line for each piece: each is numbered by one more than the one before, begins behind the byte
+-- at which that one ends, and does not hold a carriage return at its own end
 abbrev pub placed_from : ℕ → ℕ → List (List ℕ) → List TextLine
 placed_from number start [] = []
-placed_from number start (piece ∷ pieces) = record { number = number; start = start; bytes = strip_carriage_return piece } ∷ placed_from (number + 1) (start + length piece + 1) pieces
+placed_from number start (piece ∷ pieces) =
+    record { number = number; start = start; bytes = strip_carriage_return piece } ∷ placed_from
+    (number + 1) (start + length piece + 1) pieces
 
 -- the lines of a text, the first of which has that number and begins at that place
 abbrev pub lines_from : ℕ → ℕ → List ℕ → List TextLine
 lines_from number start text = placed_from number start (without_empty_last (pieces_of 10 text))
 
--- what stands between line feeds; what stands behind the last of them is a line where it is not empty
+-- what stands between line feeds; what stands behind the last of them is a line where it is not
+-- empty
 abbrev pub placed_lines : List ℕ → List TextLine
 placed_lines text = lines_from 1 0 text
 

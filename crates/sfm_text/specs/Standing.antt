@@ -1,4 +1,5 @@
--- What a reader that takes a text in pieces stands for: the texts of which it has read what it keeps.
+-- What a reader that takes a text in pieces stands for: the texts of which it has read what it
+-- keeps.
 use Rattle.std.specs.Prelude.{◌≡◌, ◌⊎◌, ℕ, ◌+◌, ◌≤◌, min, true, false, Bool, not, List, [], ◌∷◌, ◌++◌, length, filter, map, MatchOption}
 use Rattle.std.specs.List.{FoldsTo, enumerate_from}
 use Rattle.std.specs.Str.Lines.{strip_carriage_return}
@@ -36,7 +37,11 @@ pub record Progress : Type 0 where
   pub state : State
 
 abbrev pub progress_of : Reader → Progress
-progress_of reader = record { lines = reader.lines; numbers = reader.numbers.items; state = state_of reader.reading }
+progress_of reader = record {
+  lines = reader.lines;
+  numbers = reader.numbers.items;
+  state = state_of reader.reading;
+}
 
 -- the lines of these pieces are good one after another, and lead there
 pub record LeadTo (pieces : List (List ℕ)) (p : Progress) : Type 0 where
@@ -56,10 +61,11 @@ IsFaulty fault text = (more : List ℕ) → HasFaultyLine (text ++ more) fault.l
 
 -- what a reader of a text that is not too long has kept of it
 abbrev pub HasRead : Reader → List ℕ → Type 0
-HasRead reader text = MatchOption reader.fault (IsOpen (progress_of reader) reader.rest.items text) (λ fault. IsFaulty fault text)
+HasRead reader text = MatchOption reader.fault (IsOpen (progress_of reader) reader.rest.items text)
+    (λ fault. IsFaulty fault text)
 
--- the reader has read the text: it has counted the bytes, up to one more than a text may have, and where there are no
--- more than that, it has kept what they lead to
+-- the reader has read the text: it has counted the bytes, up to one more than a text may have, and
+-- where there are no more than that, it has kept what they lead to
 pub record Stands (reader : Reader) (text : List ℕ) : Type 0 where
   pub counted : reader.count ≡ min (length text) (text_limit + 1)
   pub read : length text ≤ text_limit → HasRead reader text
@@ -67,7 +73,9 @@ pub record Stands (reader : Reader) (text : List ℕ) : Type 0 where
 -- one more line, which counts or not
 pub record PassesLine (p : Progress) (line : List ℕ) (q : Progress) : Type 0 where
   pub lines : q.lines ≡ p.lines + 1
-  pub kept : ((are_skipped (tokens_of line) ≡ false) × (q.numbers ≡ p.numbers ++ (p.lines + 1) ∷ []) × Takes p.state line q.state) ⊎ ((are_skipped (tokens_of line) ≡ true) × (q.numbers ≡ p.numbers) × (q.state ≡ p.state))
+  pub kept : ((are_skipped (tokens_of line) ≡ false) × (q.numbers ≡ p.numbers ++ (p.lines + 1) ∷ [])
+      × Takes p.state line q.state)
+      ⊎ ((are_skipped (tokens_of line) ≡ true) × (q.numbers ≡ p.numbers) × (q.state ≡ p.state))
 
 -- one more line, which counts and has this fault
 pub record FailsLine (p : Progress) (line : List ℕ) (fault : Fault) : Type 0 where
@@ -77,7 +85,9 @@ pub record FailsLine (p : Progress) (line : List ℕ) (fault : Fault) : Type 0 w
 
 -- the piece has been judged as a line
 abbrev pub JudgesLine : Reader → List ℕ → Reader → Type 0
-JudgesLine old piece new = MatchOption new.fault (PassesLine (progress_of old) (strip_carriage_return piece) (progress_of new)) (FailsLine (progress_of old) (strip_carriage_return piece))
+JudgesLine old piece new = MatchOption new.fault
+    (PassesLine (progress_of old) (strip_carriage_return piece) (progress_of new))
+    (FailsLine (progress_of old) (strip_carriage_return piece))
 
 -- all lines of the text are good, and lead there
 pub record LeadsTo (text : List ℕ) (p : Progress) : Type 0 where
@@ -87,7 +97,8 @@ pub record LeadsTo (text : List ℕ) (p : Progress) : Type 0 where
 
 -- all that can be read of the text has been
 abbrev pub HasReadAll : Reader → List ℕ → Type 0
-HasReadAll reader text = MatchOption reader.fault (LeadsTo text (progress_of reader)) (λ fault. HasFaultyLine text fault.line fault.reason)
+HasReadAll reader text = MatchOption reader.fault (LeadsTo text (progress_of reader))
+    (λ fault. HasFaultyLine text fault.line fault.reason)
 
 -- the text comes to its end, and stands for the instance, with these numbers of its lines
 pub record IsToldBy (text : List ℕ) (r : Numbered) : Type 0 where

@@ -7,8 +7,10 @@ use Rattle.sfm_walk.specs.declared.run.Run.{Run}
 use Rattle.sfm_walk.specs.Run.{IsRunning}
 
 -- over claims at the same bases, where z and its signs stay
-pub goes_on : {X N : Type 0} {T : Ghosts X N} {terms : List X} {q : ℤ} {shift : List ℤ} {graph graph' : Graph N} {run run' : Run} → IsRunning T terms q shift graph run
-    → IsClaimed T terms (length shift) q graph' → graph'.bases ≡ graph.bases → run'.z ≡ run.z → run'.signs ≡ run.signs → IsRunning T terms q shift graph' run'
+pub goes_on : {X N : Type 0} {T : Ghosts X N} {terms : List X} {q : ℤ} {shift : List ℤ}
+    {graph graph' : Graph N} {run run' : Run} → IsRunning T terms q shift graph run
+    → IsClaimed T terms (length shift) q graph' → graph'.bases ≡ graph.bases → run'.z ≡ run.z
+    → run'.signs ≡ run.signs → IsRunning T terms q shift graph' run'
 goes_on h claimed bases z signs = record {
   claimed = claimed;
   small = rw bases h.small;

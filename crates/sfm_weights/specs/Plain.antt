@@ -21,7 +21,8 @@ abbrev pub IsEntryOf : List ℕ → List ℕ × Option (List ℕ) → Type 0
 IsEntryOf token entry = IsWeighed token entry × (IsSeparator entry.0 → ⊥)
 
 -- the elements of the tokens before the first semicolon alone, and the tokens from it on
-pub record AreEntriesOf (tokens : List (List ℕ)) (entries : List (List ℕ × Option (List ℕ))) (behind : List (List ℕ)) : Type 0 where
+pub record AreEntriesOf (tokens : List (List ℕ)) (entries : List (List ℕ × Option (List ℕ)))
+    (behind : List (List ℕ)) : Type 0 where
   pub marked : List (List ℕ)
   pub cut : tokens ≡ marked ++ behind
   pub each : AllZip IsEntryOf marked entries

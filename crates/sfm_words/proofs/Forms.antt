@@ -23,7 +23,9 @@ use Rattle.sfm_words.proofs.Places.{IsHeld, has_place, holds, nothing, row, take
 
 -- a subcommand as it is built
 abbrev pub sub_of : Text → Maker → Shape
-sub_of verb maker = built_leaf (inherited (with_leaf_noted (record sfm_line.top { is_built = true })) (app_of (verb, maker)).top)
+sub_of verb maker = built_leaf
+    (inherited (with_leaf_noted (record sfm_line.top { is_built = true }))
+    (app_of (verb, maker)).top)
 
 same : (a : Text) → bytes_eq a a ≡ true
 same a = (bytes_eq-Decides a a).1 refl
@@ -33,8 +35,11 @@ help_or_none true = inr refl
 help_or_none false = inl refl
 
 -- rules that know the flag for help by its two names, and no other flag
-pub has_help_only : (rules : List Rule) → ((name : Text) → arg_by_long rules name ≡ cond (bytes_eq (codes "help") name || false) (Some help) None)
-    → ((x : ℕ) → arg_by_short rules x ≡ cond ((104 == x) || false) (Some help) None) → HasHelpOnly rules
+pub has_help_only : (rules : List Rule)
+    → ((name : Text) → arg_by_long rules name ≡ cond (bytes_eq (codes "help") name || false)
+    (Some help) None)
+    → ((x : ℕ) → arg_by_short rules x ≡ cond ((104 == x) || false) (Some help) None)
+    → HasHelpOnly rules
 has_help_only rules long short = record {
   long = λ name. rw (long name) (help_or_none _);
   short = λ x. rw (short x) (help_or_none _);
@@ -147,7 +152,8 @@ module _ (verb a b c : Text) (make : (ℕ → Text) → Command)
       (has_place (three_b x y) refl name 3 c refl bc refl
       (λ e. not_none _ _ (rw (same a, ab, same b, ac, bc) at e))) name _ (λ z.
       handles_end three_sub three_helps _ (Some (c, z ∷ [])) 4 (made_by make (x ∷ y ∷ z ∷ [])) refl
-      (taken_at_end (three_c x y z)) (holds (three_c x y z) refl (made_by make (x ∷ y ∷ z ∷ [])) refl
+      (taken_at_end (three_c x y z))
+      (holds (three_c x y z) refl (made_by make (x ∷ y ∷ z ∷ [])) refl
       (rw (same a, ab, same b, ac, bc, same c) refl)
       (rw (listed, same a, ab, same b, ac, bc, same c) refl) (small _)))))
 

@@ -1,4 +1,5 @@
--- The words of one subcommand: where clap finds no fault it takes them, and its matches hold a command.
+-- The words of one subcommand: where clap finds no fault it takes them, and its matches hold a
+-- command.
 use Rattle.std.proofs.Common.{◌≡◌, ◌∙◌, ◌&&◌, ◌+◌, ◌≤◌, ℕ, Bool, List, [], ◌∷◌, refl, sym, ap, subst, true, false, Some, None, Option, inl, inr, cond}
 use Rattle.std.specs.Prelude.{⊤, fold}
 use Rattle.std.specs.List.{list_all}
@@ -17,10 +18,12 @@ use Rattle.sfm_words.proofs.Turns.{HasHelpOnly, IsValue, at, dashes, dashes_or_v
 -- the fault of what is held at the end, and the same as a test
 abbrev pub end_fault : Shape → Held → Kinds
 end_fault s h = or_else (settle_fault s.rules s.args_override_self h)
-    (or_else (defaults_fault (settled s.rules h).rows s.rules) (check_fault s (finished s.rules h) false))
+    (or_else (defaults_fault (settled s.rules h).rows s.rules)
+    (check_fault s (finished s.rules h) false))
 
 abbrev end_passes : Shape → Held → Bool
-end_passes s h = settle_passes s.rules s.args_override_self h && (list_all default_passes s.rules && is_valid s (finished s.rules h) false)
+end_passes s h = settle_passes s.rules s.args_override_self h &&
+    (list_all default_passes s.rules && is_valid s (finished s.rules h) false)
 
 -- the walk over the rest of the words has no fault, nor has what is held after it
 pub record IsFree (s : Shape) (w : Walk) (words : List Text) : Type 0 where
@@ -49,11 +52,13 @@ ReachesIfFree s w words = IsFree s w words → (command : Command) × Reaches s 
 
 -- ---- one more word
 
-turn_of : (s : Shape) (w : Walk) (word : Text) (words : List Text) → IsFree s w (word ∷ words) → turn_fault s [] w word ≡ []
+turn_of : (s : Shape) (w : Walk) (word : Text) (words : List Text) → IsFree s w (word ∷ words)
+    → turn_fault s [] w word ≡ []
 unfolding walk_fault
 turn_of s w word words e = (none_of _ _ e.walk).0
 
-next_of : (s : Shape) (w : Walk) (word : Text) (words : List Text) → IsFree s w (word ∷ words) → IsFree s (walked s.rules [] w word) words
+next_of : (s : Shape) (w : Walk) (word : Text) (words : List Text) → IsFree s w (word ∷ words)
+    → IsFree s (walked s.rules [] w word) words
 unfolding walk_fault
 next_of s w word words e = record { walk = (none_of _ _ e.walk).1; end = e.end }
 
@@ -70,21 +75,28 @@ module _ {s : Shape} {w w' : Walk} {word : Text} (goes : walked s.rules [] w wor
       let (command, r) = then (subst (λ w. IsFree s w words) goes (next_of s w word words e)) in
       (command, ahead command r)
 
-after_dashes : (c : List Rule) (rows : List Row) (pending : Option (Text × List Text)) (k : ℕ) → walked c [] (at rows pending k false) dashes ≡ at rows pending k true
+after_dashes : (c : List Rule) (rows : List Row) (pending : Option (Text × List Text)) (k : ℕ)
+    → walked c [] (at rows pending k false) dashes ≡ at rows pending k true
 unfolding walked
 after_dashes c rows pending k = refl
 
-after_trailing : (c : List Rule) (rows : List Row) (pending : Option (Text × List Text)) (k : ℕ) (word : Text)
-    → walked c [] (at rows pending k true) word ≡ to_positional c (arg_by_index c k) word (at rows pending k true) (holding rows pending)
+after_trailing : (c : List Rule) (rows : List Row) (pending : Option (Text × List Text)) (k : ℕ)
+    (word : Text)
+    → walked c [] (at rows pending k true) word ≡ to_positional c (arg_by_index c k) word
+    (at rows pending k true) (holding rows pending)
 unfolding walked
 after_trailing c rows pending k word = refl
 
 -- ---- places
 
-stray : (s : Shape) (k : ℕ) (h : Held) → arg_by_index s.rules k ≡ None → step_fault s k h value ≡ [] → ⊥
-stray s k h none e = go s.is_leaf (sym (ap (λ o. option_map_or (λ a. positional_fault s.rules s.args_override_self a h) o (stray_fault s)) none) ∙ e)
+stray : (s : Shape) (k : ℕ) (h : Held) → arg_by_index s.rules k ≡ None → step_fault s k h value ≡ []
+    → ⊥
+stray s k h none e = go s.is_leaf
+    (sym (ap (λ o. option_map_or (λ a. positional_fault s.rules s.args_override_self a h) o
+    (stray_fault s)) none) ∙ e)
   where
-    go : (b : Bool) → cond b (UnknownArgument ∷ []) (UnknownArgument ∷ InvalidSubcommand ∷ []) ≡ [] → ⊥
+    go : (b : Bool) → cond b (UnknownArgument ∷ []) (UnknownArgument ∷ InvalidSubcommand ∷ []) ≡ []
+        → ⊥
     go true e = not_none _ _ e
     go false e = not_none _ _ e
 
@@ -165,10 +177,12 @@ module _ (s : Shape) (only : HasHelpOnly s.rules) (rows : List Row)
     handles_end = record { free = full; plain = full_plain }
 
   -- the place of an argument that has to be there
-  module _ {Taken : Type 0} {id : Text} {rows' : List Row} (place : IsPlace s rows pending k Taken id rows')
+  module _ {Taken : Type 0} {id : Text} {rows' : List Row}
+      (place : IsPlace s rows pending k Taken id rows')
       (form : ValueParser) (Rest : Text → List Text → Command → Type 0)
       (then : (word : Text)
-      → Handles s rows' (Some (id, word ∷ [])) (k + 1) (accepts false form word ≡ true) (Rest word)) where
+      → Handles s rows' (Some (id, word ∷ [])) (k + 1) (accepts false form word ≡ true)
+      (Rest word)) where
     value_goes : (word : Text) → IsValue word
         → walked s.rules [] (here false) word ≡ at rows' (Some (id, word ∷ [])) (k + 1) false
     value_goes word is = value_walks s.rules [] word refl is rows pending k ∙ place.goes false word
@@ -181,7 +195,8 @@ module _ (s : Shape) (only : HasHelpOnly s.rules) (rows : List Row)
         (place.passes (place.fault (turn_of s (here true) word words e))) words
         ((then word).free true words) e
     at_place false (word ∷ words) e = dashes_or word words (at_place true words) (λ is e.
-        let turn = value_fault s [] word refl is rows pending k (turn_of s (here false) word words e) in
+        let turn = value_fault s [] word refl is rows pending k
+        (turn_of s (here false) word words e) in
         onward (value_goes word is)
         (value_passes s [] word refl is rows pending k (place.passes (place.fault turn))) words
         ((then word).free false words) e) e

@@ -1,5 +1,5 @@
--- The words of the whole command line: where clap finds no fault it takes them, and its matches hold a command; and so it does where they are
--- of a plain form.
+-- The words of the whole command line: where clap finds no fault it takes them, and its matches
+-- hold a command; and so it does where they are of a plain form.
 use Rattle.std.proofs.Common.{◌≡◌, ◌∙◌, ◌==◌, ◌<◌, ◌^◌, true≢false, ℕ, lt-ltb, le-leb, Bool, List, [], ◌∷◌, ◌++◌, arith, refl, sym, ap, cond, length, map, subst, true, false, Option, Some, None, inl, inr, codes}
 use Rattle.std.specs.Prelude.{⊤, All, nat_le, nat_lt, find, fold, is_some, option_and_then, option_map}
 use Rattle.std.specs.Map.{lookup}
@@ -48,7 +48,8 @@ some_not_none x e = true≢false (ap (λ o. is_some o) e)
 abbrev met_with : Text → List Text → Walk
 met_with verb words = record (at [] None 1 false) { stopped = Some (verb, words) }
 
-stopped_passes : (s : Shape) (ns : Names) (w : Walk) (p : Text × List Text) (words : List Text) → walk_passes s ns (record w { stopped = Some p }) words ≡ true
+stopped_passes : (s : Shape) (ns : Names) (w : Walk) (p : Text × List Text) (words : List Text)
+    → walk_passes s ns (record w { stopped = Some p }) words ≡ true
 unfolding walk_passes walked
 stopped_passes s ns w p [] = refl
 stopped_passes s ns w p (x ∷ xs) = stopped_passes s ns w (p.0, p.1 ++ x ∷ []) xs
@@ -60,16 +61,25 @@ AskSome words = (command : Command) × Asks words command × HasSmallSeed comman
 -- ---- the table
 
 -- a subcommand is found by its name as in the table
-finds : (rest : List Shape) (word : Text) (rows : List (Text × Maker)) → find (λ s. answers_to word (label_of s)) (map (λ row. sub_of row.0 row.1) rows ++ rest)
-    ≡ option_map_or (λ maker. Some (sub_of word maker)) (lookup (λ verb. bytes_eq verb word) rows) (find (λ s. answers_to word (label_of s)) rest)
+finds : (rest : List Shape) (word : Text) (rows : List (Text × Maker))
+    → find (λ s. answers_to word (label_of s)) (map (λ row. sub_of row.0 row.1) rows ++ rest)
+    ≡ option_map_or (λ maker. Some (sub_of word maker)) (lookup (λ verb. bytes_eq verb word) rows)
+    (find (λ s. answers_to word (label_of s)) rest)
 finds rest word [] = refl
 finds rest word (row ∷ rows) = go (bytes_eq row.0 word) refl (finds rest word rows)
   where
-    go : (b : Bool) → bytes_eq row.0 word ≡ b → find (λ s. answers_to word (label_of s)) (map (λ row. sub_of row.0 row.1) rows ++ rest)
-        ≡ option_map_or (λ maker. Some (sub_of word maker)) (lookup (λ verb. bytes_eq verb word) rows) (find (λ s. answers_to word (label_of s)) rest)
-        → find (λ s. answers_to word (label_of s)) (map (λ row. sub_of row.0 row.1) (row ∷ rows) ++ rest)
-        ≡ option_map_or (λ maker. Some (sub_of word maker)) (lookup (λ verb. bytes_eq verb word) (row ∷ rows)) (find (λ s. answers_to word (label_of s)) rest)
-    go true e more = rw e (ap (λ verb. Some (sub_of verb row.1)) ((bytes_eq-Decides row.0 word).0 e))
+    go : (b : Bool) → bytes_eq row.0 word ≡ b
+        → find (λ s. answers_to word (label_of s)) (map (λ row. sub_of row.0 row.1) rows ++ rest)
+        ≡ option_map_or (λ maker. Some (sub_of word maker))
+        (lookup (λ verb. bytes_eq verb word) rows)
+        (find (λ s. answers_to word (label_of s)) rest)
+        → find (λ s. answers_to word (label_of s))
+        (map (λ row. sub_of row.0 row.1) (row ∷ rows) ++ rest)
+        ≡ option_map_or (λ maker. Some (sub_of word maker))
+        (lookup (λ verb. bytes_eq verb word) (row ∷ rows))
+        (find (λ s. answers_to word (label_of s)) rest)
+    go true e more = rw e (ap (λ verb. Some (sub_of verb row.1))
+        ((bytes_eq-Decides row.0 word).0 e))
     go false e more = rw e more
 
 -- each row is good
@@ -77,9 +87,11 @@ abbrev AreGood : List (Text × Maker) → Type 0
 AreGood [] = ⊤
 AreGood (row ∷ rows) = IsGood row.1 × AreGood rows
 
-good_row : (word : Text) (maker : Maker) (rows : List (Text × Maker)) → AreGood rows → lookup (λ verb. bytes_eq verb word) rows ≡ Some maker → IsGood maker
+good_row : (word : Text) (maker : Maker) (rows : List (Text × Maker)) → AreGood rows
+    → lookup (λ verb. bytes_eq verb word) rows ≡ Some maker → IsGood maker
 good_row word maker [] good e = absurd (some_not_none maker (sym e))
-good_row word maker (row ∷ rows) good e = go (bytes_eq row.0 word) e (good_row word maker rows good.1)
+good_row word maker (row ∷ rows) good e =
+    go (bytes_eq row.0 word) e (good_row word maker rows good.1)
   where
     go : (b : Bool) → cond b (Some row.1) (lookup (λ verb. bytes_eq verb word) rows) ≡ Some maker
         → (lookup (λ verb. bytes_eq verb word) rows ≡ Some maker → IsGood maker) → IsGood maker
@@ -87,25 +99,53 @@ good_row word maker (row ∷ rows) good e = go (bytes_eq row.0 word) e (good_row
     go false e more = more e
 
 all_good : AreGood subcommands
-all_good = ((tt, λ given. tt), ((refl, λ given. tt), (λ n small. small, ((refl, λ given. tt), (((refl, refl, refl), λ given. tt), ((refl, λ given. tt), ((tt, λ given. tt), ((refl, λ given. tt), ((refl, λ given. tt), (((refl, refl, refl), λ given. tt), tt))))))))))
+all_good = (
+  (tt, λ given. tt),
+  (
+    (refl, λ given. tt),
+    (
+      λ n small. small,
+      (
+        (refl, λ given. tt),
+        (
+          ((refl, refl, refl), λ given. tt),
+          (
+            (refl, λ given. tt),
+            (
+              (tt, λ given. tt),
+              ((refl, λ given. tt), ((refl, λ given. tt), (((refl, refl, refl), λ given. tt), tt))),
+            ),
+          ),
+        ),
+      ),
+    ),
+  ),
+)
 
 -- a verb of the table, and the subcommand that it names
-module _ (verb : Text) (maker : Maker) (listed : lookup (λ word. bytes_eq word verb) subcommands ≡ Some maker) where
+module _ (verb : Text) (maker : Maker)
+    (listed : lookup (λ word. bytes_eq word verb) subcommands ≡ Some maker) where
   abbrev sub : Shape
   sub = sub_of verb maker
 
   named : find (λ s. answers_to verb (label_of s)) (built sfm_line).subs ≡ Some sub
-  named = finds (help_sub ∷ []) verb subcommands ∙ ap (λ o. option_map_or (λ maker. Some (sub_of verb maker)) o (find (λ s. answers_to verb (label_of s)) (help_sub ∷ []))) listed
+  named = finds (help_sub ∷ []) verb subcommands
+      ∙ ap (λ o. option_map_or (λ maker. Some (sub_of verb maker)) o
+      (find (λ s. answers_to verb (label_of s)) (help_sub ∷ []))) listed
 
   met : subcommand_met names idle verb ≡ Some verb
-  met = ap (λ o. option_map (λ (p : Text × List Text). p.0) o) (sym (find-map (answers_to verb) label_of (built sfm_line).subs) ∙ ap (λ o. option_map label_of o) named)
+  met = ap (λ o. option_map (λ (p : Text × List Text). p.0) o)
+      (sym (find-map (answers_to verb) label_of (built sfm_line).subs)
+      ∙ ap (λ o. option_map label_of o) named)
 
   no_topic : bytes_eq verb (codes "help") ≡ false
   no_topic = go (bytes_eq verb (codes "help")) refl
     where
       go : (b : Bool) → bytes_eq verb (codes "help") ≡ b → b ≡ false
       go false e = refl
-      go true e = absurd (some_not_none maker (sym listed ∙ ap (λ v. lookup (λ word. bytes_eq word v) subcommands) ((bytes_eq-Decides verb (codes "help")).0 e)))
+      go true e = absurd (some_not_none maker
+          (sym listed ∙ ap (λ v. lookup (λ word. bytes_eq word v) subcommands)
+          ((bytes_eq-Decides verb (codes "help")).0 e)))
 
   first : walked top.rules names (walk_from nothing_held) verb ≡ met_with verb []
   unfolding walked
@@ -114,41 +154,62 @@ module _ (verb : Text) (maker : Maker) (listed : lookup (λ word. bytes_eq word 
   passes : turn_passes top names (walk_from nothing_held) verb ≡ true
   passes = rw (met, no_topic) refl
 
-  walk_is : (words : List Text) → fold (walked top.rules names) (walk_from nothing_held) (verb ∷ words) ≡ met_with verb words
-  walk_is words = ap (λ w. fold (walked top.rules names) w words) first ∙ sym (walk_stopped top.rules names (at [] None 1 false) verb [] words)
+  walk_is : (words : List Text) → fold (walked top.rules names) (walk_from nothing_held)
+      (verb ∷ words) ≡ met_with verb words
+  walk_is words = ap (λ w. fold (walked top.rules names) w words) first
+      ∙ sym (walk_stopped top.rules names (at [] None 1 false) verb [] words)
 
-  stop_is : (words : List Text) → (fold (walked top.rules names) (walk_from nothing_held) (verb ∷ words)).stopped ≡ Some (verb, words)
+  stop_is : (words : List Text) → (fold (walked top.rules names) (walk_from nothing_held)
+      (verb ∷ words)).stopped ≡ Some (verb, words)
   stop_is words = ap (λ (w : Walk). w.stopped) (walk_is words)
 
-  fault_below : (words : List Text) → fault_of sfm_line (verb ∷ words) ≡ [] → IsFree sub (at [] None 1 false) words
+  fault_below : (words : List Text) → fault_of sfm_line (verb ∷ words) ≡ []
+      → IsFree sub (at [] None 1 false) words
   fault_below words e =
-      let entering = ap (λ stop. entered_fault (built sfm_line) stop) (stop_is words) ∙ ap (λ o. option_map_or (λ (s : Shape). level_fault s [] nothing_held words false []) o []) named in
+      let entering = ap (λ stop. entered_fault (built sfm_line) stop) (stop_is words)
+      ∙ ap (λ o. option_map_or (λ (s : Shape). level_fault s [] nothing_held words false []) o
+      []) named in
       let below : level_fault sub [] nothing_held words false [] ≡ [] =
-      sym entering ∙ (none_of _ _ (none_of (walk_fault top names (walk_from nothing_held) (verb ∷ words)) _ e).1).0 in
+      sym entering
+      ∙ (none_of _ _ (none_of (walk_fault top names (walk_from nothing_held) (verb ∷ words)) _
+      e).1).0 in
       let parts = none_of (walk_fault sub [] (walk_from nothing_held) words) _ below in
       record { walk = parts.0; end = parts.1 }
 
-  entered_is : (words : List Text) → entered (built sfm_line) (fold (walked top.rules names) (walk_from nothing_held) (verb ∷ words)).stopped ≡ Some (rows_at sub words)
-  entered_is words = ap (λ stop. entered (built sfm_line) stop) (stop_is words) ∙ ap (λ o. option_map (λ (s : Shape). rows_at s words) o) named
+  entered_is : (words : List Text)
+      → entered (built sfm_line) (fold (walked top.rules names) (walk_from nothing_held)
+      (verb ∷ words)).stopped ≡ Some (rows_at sub words)
+  entered_is words = ap (λ stop. entered (built sfm_line) stop) (stop_is words)
+      ∙ ap (λ o. option_map (λ (s : Shape). rows_at s words) o) named
 
   top_passes : (words : List Text) → level_passes top names nothing_held (verb ∷ words) true ≡ true
   unfolding walk_passes
   top_passes words =
-      let rest : walk_passes top names (walked top.rules names (walk_from nothing_held) verb) words ≡ true =
-      ap (λ w. walk_passes top names w words) first ∙ stopped_passes top names (at [] None 1 false) (verb, []) words in
-      let end : (fold (walked top.rules names) (walked top.rules names (walk_from nothing_held) verb) words).held ≡ nothing_held = ap (λ (w : Walk). w.held) (walk_is words) in
+      let rest : walk_passes top names (walked top.rules names (walk_from nothing_held) verb)
+      words ≡ true =
+      ap (λ w. walk_passes top names w words) first ∙ stopped_passes top names (at [] None 1 false)
+      (verb, []) words in
+      let end : (fold (walked top.rules names)
+      (walked top.rules names (walk_from nothing_held) verb) words).held
+      ≡ nothing_held = ap (λ (w : Walk). w.held) (walk_is words) in
       rw (passes, rest, end) refl
 
   -- words that reach a command ask for it
-  pub asks : (words : List Text) (command : Command) → Reaches sub (at [] None 1 false) words command → Asks (verb ∷ words) command
+  pub asks : (words : List Text) (command : Command)
+      → Reaches sub (at [] None 1 false) words command → Asks (verb ∷ words) command
   asks words command r =
-      let level : level_passes sub [] nothing_held words false ≡ true = rw (r.walk, r.end.passes) refl in
-      let below : entered_passes (built sfm_line) (fold (walked top.rules names) (walk_from nothing_held) (verb ∷ words)).stopped ≡ true =
+      let level : level_passes sub [] nothing_held words false ≡ true = rw (r.walk, r.end.passes)
+      refl in
+      let below : entered_passes (built sfm_line)
+      (fold (walked top.rules names) (walk_from nothing_held) (verb ∷ words)).stopped ≡ true =
       ap (λ stop. entered_passes (built sfm_line) stop) (stop_is words)
-      ∙ ap (λ o. option_map_or (λ (s : Shape). level_passes s [] nothing_held words false) o true) named ∙ level in
+      ∙ ap (λ o. option_map_or (λ (s : Shape). level_passes s [] nothing_held words false) o true)
+      named ∙ level in
       let above : level_passes top names nothing_held (verb ∷ words)
-      (is_some (entered (built sfm_line) (fold (walked top.rules names) (walk_from nothing_held) (verb ∷ words)).stopped)) ≡ true =
-      ap (λ o. level_passes top names nothing_held (verb ∷ words) (is_some o)) (entered_is words) ∙ top_passes words in
+      (is_some (entered (built sfm_line)
+      (fold (walked top.rules names) (walk_from nothing_held) (verb ∷ words)).stopped)) ≡ true =
+      ap (λ o. level_passes top names nothing_held (verb ∷ words) (is_some o)) (entered_is words)
+      ∙ top_passes words in
       (rw (below, above) refl, ap (option_and_then command_by) (entered_is words) ∙ r.end.found)
 
   verb_words : Handles sub [] None 1 ⊤ (PlainWords maker)
@@ -179,10 +240,13 @@ no_dashes (word ∷ words) e = not_none _ _ e
 top_helps : HasHelpOnly top.rules
 top_helps = has_help_only _ (λ name. refl) (λ x. refl)
 
-no_other : (word : Text) (words : List Text) → subcommand_met names idle word ≡ None → fault_of sfm_line (word ∷ words) ≡ [] → ⊥
+no_other : (word : Text) (words : List Text) → subcommand_met names idle word ≡ None
+    → fault_of sfm_line (word ∷ words) ≡ [] → ⊥
 unfolding walk_fault
 no_other word words met e =
-    let turn : turn_fault top names (at [] None 1 false) word ≡ [] = (none_of _ _ (none_of (walk_fault top names (walk_from nothing_held) (word ∷ words)) _ e).0).0 in
+    let turn : turn_fault top names (at [] None 1 false)
+    word ≡ [] = (none_of _ _ (none_of
+    (walk_fault top names (walk_from nothing_held) (word ∷ words)) _ e).0).0 in
     elim (dashes_or_value top names [] None 1 word top_helps met turn) [
       | inl is ↦ no_dashes words (subst (λ w. fault_of sfm_line (w ∷ words) ≡ []) is e)
       | inr is ↦ not_none _ _ (value_fault top names word met is [] None 1 turn)
@@ -192,16 +256,23 @@ no_other word words met e =
 pub reads : (words : List Text) → fault_of sfm_line words ≡ [] → AskSome words
 unfolding walk_fault defaults_fault
 reads [] e = absurd (not_none _ _ e)
-reads (word ∷ words) e = go (lookup (λ verb. bytes_eq verb word) subcommands) (bytes_eq (codes "help") word) refl refl
+reads (word ∷ words) e = go (lookup (λ verb. bytes_eq verb word) subcommands)
+    (bytes_eq (codes "help") word) refl refl
   where
-    go : (o : Option Maker) (b : Bool) → lookup (λ verb. bytes_eq verb word) subcommands ≡ o → bytes_eq (codes "help") word ≡ b → AskSome (word ∷ words)
+    go : (o : Option Maker) (b : Bool) → lookup (λ verb. bytes_eq verb word) subcommands ≡ o
+        → bytes_eq (codes "help") word ≡ b → AskSome (word ∷ words)
     go (Some maker) b listed at_b = verb_asks word maker listed words e
-    go None true none is = absurd (no_help words (subst (λ w. fault_of sfm_line (w ∷ words) ≡ []) (sym ((bytes_eq-Decides (codes "help") word).0 is)) e))
+    go None true none is =
+        absurd (no_help words (subst (λ w. fault_of sfm_line (w ∷ words) ≡ [])
+        (sym ((bytes_eq-Decides (codes "help") word).0 is)) e))
     go None false none is_not =
         let found : find (λ s. answers_to word (label_of s)) (built sfm_line).subs ≡ None =
-        finds (help_sub ∷ []) word subcommands ∙ ap (λ o. option_map_or (λ maker. Some (sub_of word maker)) o (find (λ s. answers_to word (label_of s)) (help_sub ∷ []))) none ∙ rw is_not refl in
+        finds (help_sub ∷ []) word subcommands
+        ∙ ap (λ o. option_map_or (λ maker. Some (sub_of word maker)) o
+        (find (λ s. answers_to word (label_of s)) (help_sub ∷ []))) none ∙ rw is_not refl in
         absurd (no_other word words (ap (λ o. option_map (λ (p : Text × List Text). p.0) o)
-        (sym (find-map (answers_to word) label_of (built sfm_line).subs) ∙ ap (λ o. option_map label_of o) found)) e)
+        (sym (find-map (answers_to word) label_of (built sfm_line).subs)
+        ∙ ap (λ o. option_map label_of o) found)) e)
 
 -- ---- the plain forms
 
@@ -233,7 +304,8 @@ seed_is_plain make (x ∷ xs) seed is =
     let unsigned : without_leading_plus (x ∷ xs) ≡ x ∷ xs =
     without_leading_plus_none (x ∷ xs) (λ e. omega (arith, first, e)) in
     let numeral : is_numeral (x ∷ xs) ≡ true = numeral_told (x ∷ xs) (is.0, is.2) in
-    let fits : nat_lt (digits_value 10 (x ∷ xs)) (2 ^ 64) ≡ true = lt-ltb _ _ (omega (arith, below)) in
+    let fits : nat_lt (digits_value 10 (x ∷ xs)) (2 ^ 64) ≡ true = lt-ltb _ _
+    (omega (arith, below)) in
     let large : nat_le 0 (digits_value 10 (x ∷ xs)) ≡ true = le-leb _ _ (omega arith) in
     let small : nat_le (digits_value 10 (x ∷ xs)) 999999999 ≡ true =
     le-leb _ _ (omega (arith, below)) in (
@@ -244,7 +316,8 @@ seed_is_plain make (x ∷ xs) seed is =
       rw unsigned (ap make is.3),
     )
 
-names_are_plain : (names : List Text) (make : List Text → Command) (words : List Text) (command : Command)
+names_are_plain : (names : List Text) (make : List Text → Command) (words : List Text)
+    (command : Command)
     → length words ≡ length names → All IsFileName words → make words ≡ command
     → PlainNames names make words command
 names_are_plain [] make [] command size all made = made
@@ -257,7 +330,8 @@ names_are_plain (a ∷ names) make (x ∷ words) command size all made = (
 )
 
 -- words of the plain form of a subcommand are plainly those behind its own
-plain_words : (maker : Maker) (words : List Text) (command : Command) → IsPlainFor maker words command
+plain_words : (maker : Maker) (words : List Text) (command : Command)
+    → IsPlainFor maker words command
     → PlainWords maker words command
 plain_words (files names make) words command (size, all, made) =
     names_are_plain names (made_by make) words command size all made
@@ -267,5 +341,6 @@ plain_words (number a make) words command (x, seed, is, s, made) =
 
 pub form_asks : (words : List Text) (command : Command) → IsForm words command
     → Asks words command
-form_asks words command (verb, maker, behind, is, listed, plain) = subst (λ v. Asks v command) (sym is)
+form_asks words command (verb, maker, behind, is, listed, plain) =
+    subst (λ v. Asks v command) (sym is)
     (plain_asks verb maker listed behind command (plain_words maker behind command plain))

@@ -29,7 +29,8 @@ told_numeral ds e =
     let parts = both _ _ e in
     (ltb-true _ _ parts.0, told_digits ds parts.1)
 
-module _ {E : Type 0} (gives : Text → Result ℕ E → Type 0) (tells : (text : Text) (r : Result ℕ E) → gives text r → ParsesUnsigned 64 10 text r) where
+module _ {E : Type 0} (gives : Text → Result ℕ E → Type 0)
+    (tells : (text : Text) (r : Result ℕ E) → gives text r → ParsesUnsigned 64 10 text r) where
   read_is : (text : Text) (r : Option ℕ) → ReadsOne gives text r → r ≡ parsed_number text
   read_is text (Some n) h =
       let (is, value) = tells text (Ok n) h in
@@ -39,7 +40,8 @@ module _ {E : Type 0} (gives : Text → Result ℕ E → Type 0) (tells : (text 
       digits : Text
       digits = without_leading_plus text
 
-      go : (b : Bool) → (is_numeral digits && nat_lt (digits_value 10 digits) (2 ^ 64)) ≡ b → None ≡ parsed_number text
+      go : (b : Bool) → (is_numeral digits && nat_lt (digits_value 10 digits) (2 ^ 64)) ≡ b
+          → None ≡ parsed_number text
       go true e =
           let parts = both _ _ e in
           absurd (tells text (Err h.0) h.1 (told_numeral digits parts.0, ltb-true _ _ parts.1))

@@ -62,7 +62,8 @@ pub record HasHelpOnly (c : List Rule) : Type 0 where
 help_fails : (c : List Rule) (again : Bool) (h : Held) → react_fault c again help [] h ≡ [] → ⊥
 help_fails c again h e = not_none _ _ (none_of _ _ e).1
 
-long_fails : (c : List Rule) (again : Bool) (name : Text) (v : Option Text) (h : Held) → HasHelpOnly c → long_fault c again (arg_by_long c name) v h ≡ [] → ⊥
+long_fails : (c : List Rule) (again : Bool) (name : Text) (v : Option Text) (h : Held)
+    → HasHelpOnly c → long_fault c again (arg_by_long c name) v h ≡ [] → ⊥
 long_fails c again name v h only e = elim (only.long name) [
   | inl none ↦ not_none _ _ (sym (ap (λ o. long_fault c again o v h) none) ∙ e)
   | inr some ↦ go v (sym (ap (λ o. long_fault c again o v h) some) ∙ e)
@@ -72,24 +73,31 @@ long_fails c again name v h only e = elim (only.long name) [
     go None e = help_fails c again h e
     go (Some t) e = not_none _ _ e
 
-short_fails : (c : List Rule) (again : Bool) (x : ℕ) (rest : Text) (h : Held) (next : Held → Kinds) → HasHelpOnly c → short_fault c again (arg_by_short c x) rest h next ≡ [] → ⊥
+short_fails : (c : List Rule) (again : Bool) (x : ℕ) (rest : Text) (h : Held) (next : Held → Kinds)
+    → HasHelpOnly c → short_fault c again (arg_by_short c x) rest h next ≡ [] → ⊥
 short_fails c again x rest h next only e = elim (only.short x) [
   | inl none ↦ not_none _ _ (sym (ap (λ o. short_fault c again o rest h next) none) ∙ e)
-  | inr some ↦ help_fails c again h (none_of _ _ (sym (ap (λ o. short_fault c again o rest h next) some) ∙ e)).0
+  | inr some ↦ help_fails c again h
+      (none_of _ _ (sym (ap (λ o. short_fault c again o rest h next) some) ∙ e)).0
 ]
 
-bundle_is_none : (c : List Rule) (again : Bool) (flags : Text) (h : Held) → HasHelpOnly c → bundle_fault c again flags (record h { skip = 0 }) ≡ [] → slice_get (chars flags) 0 ≡ None
+bundle_is_none : (c : List Rule) (again : Bool) (flags : Text) (h : Held) → HasHelpOnly c
+    → bundle_fault c again flags (record h { skip = 0 }) ≡ [] → slice_get (chars flags) 0 ≡ None
 unfolding flags_fault chars
 bundle_is_none c again [] h only e = refl
 bundle_is_none c again (x ∷ flags) h only e = go (slice_get (chars (x ∷ flags)) 0) e
   where
-    go : (o : Option ℕ) → bundle_step_fault c again o (x ∷ flags) 0 (record h { skip = 0 }) (flags_fault c again (length flags)) ≡ [] → o ≡ None
+    go : (o : Option ℕ) → bundle_step_fault c again o (x ∷ flags) 0 (record h { skip = 0 })
+        (flags_fault c again (length flags)) ≡ [] → o ≡ None
     go None e = refl
     go (Some y) e = absurd (short_fails c again y _ (record h { skip = 0 }) _ only e)
 
 -- a word that is no fault is two hyphens or a value
-pub dashes_or_value : (s : Shape) (names : Names) (rows : List Row) (pending : Option (Text × List Text)) (position : ℕ) (word : Text)
-    → HasHelpOnly s.rules → subcommand_met names idle word ≡ None → turn_fault s names (at rows pending position false) word ≡ [] → (word ≡ dashes) ⊎ IsValue word
+pub dashes_or_value : (s : Shape) (names : Names) (rows : List Row)
+    (pending : Option (Text × List Text)) (position : ℕ) (word : Text)
+    → HasHelpOnly s.rules → subcommand_met names idle word ≡ None
+    → turn_fault s names (at rows pending position false) word ≡ [] → (word ≡ dashes)
+    ⊎ IsValue word
 dashes_or_value s names rows pending position word only met e =
     go (bytes_eq word dashes) refl (sym (ap (λ o. other_fault s o word h) met) ∙ (none_of _ _ e).0)
   where
@@ -99,53 +107,90 @@ dashes_or_value s names rows pending position word only met e =
     again : Bool
     again = s.args_override_self
 
-    no_long : (o : Option (Text × Option Text)) → flag_word_fault s.rules again o word h ≡ [] → (o ≡ None) × (flag_word_fault s.rules again None word h ≡ [])
+    no_long : (o : Option (Text × Option Text)) → flag_word_fault s.rules again o word h ≡ []
+        → (o ≡ None) × (flag_word_fault s.rules again None word h ≡ [])
     no_long None e = (refl, e)
     no_long (Some p) e = absurd (long_fails s.rules again p.0 p.1 h only e)
 
-    no_short : (o : Option Text) (flags : Text) → option_map_or (λ flags. bundle_fault s.rules again flags h) o [] ≡ [] → o ≡ Some flags → slice_get (chars flags) 0 ≡ None
-    no_short o flags e is = bundle_is_none s.rules again flags h only (sym (ap (λ o. option_map_or (λ flags. bundle_fault s.rules again flags h) o []) is) ∙ e)
+    no_short : (o : Option Text) (flags : Text)
+        → option_map_or (λ flags. bundle_fault s.rules again flags h) o [] ≡ [] → o ≡ Some flags
+        → slice_get (chars flags) 0 ≡ None
+    no_short o flags e is = bundle_is_none s.rules again flags h only
+        (sym (ap (λ o. option_map_or (λ flags. bundle_fault s.rules again flags h) o []) is) ∙ e)
 
-    go : (b : Bool) → bytes_eq word dashes ≡ b → cond b [] (flag_word_fault s.rules again (long_of word) word h) ≡ [] → (word ≡ dashes) ⊎ IsValue word
+    go : (b : Bool) → bytes_eq word dashes ≡ b
+        → cond b [] (flag_word_fault s.rules again (long_of word) word h) ≡ [] → (word ≡ dashes)
+        ⊎ IsValue word
     go true is e = inl ((bytes_eq-Decides word dashes).0 is)
     go false is e =
         let none = no_long (long_of word) e in
-        inr (record { apart = is; long = none.0; short = λ flags. no_short (short_of word) flags none.1 })
+        inr (record {
+          apart = is;
+          long = none.0;
+          short = λ flags. no_short (short_of word) flags none.1;
+        })
 
 -- ---- a value
 
-module _ (c : List Rule) (names : Names) (word : Text) (met : subcommand_met names idle word ≡ None) (is : IsValue word) where
-  bundle_plain : (flags : Text) (h : Held) → short_of word ≡ Some flags → bundle_met c (length flags) flags 0 plain h ≡ (h, plain)
-  bundle_plain flags h at = sym (bundle_ends c (length flags) flags 0 plain h (sym (is.short flags at)))
+module _ (c : List Rule) (names : Names) (word : Text) (met : subcommand_met names idle word ≡ None)
+    (is : IsValue word) where
+  bundle_plain : (flags : Text) (h : Held) → short_of word ≡ Some flags
+      → bundle_met c (length flags) flags 0 plain h ≡ (h, plain)
+  bundle_plain flags h at = sym (bundle_ends c (length flags) flags 0 plain h
+      (sym (is.short flags at)))
 
-  short_plain : (rows : List Row) (pending : Option (Text × List Text)) (o : Option Text) → short_of word ≡ o
+  short_plain : (rows : List Row) (pending : Option (Text × List Text)) (o : Option Text)
+      → short_of word ≡ o
       → short_or_plain c idle word o (holding rows pending) ≡ (holding rows pending, value)
   short_plain rows pending None at = refl
-  short_plain rows pending (Some flags) at = ap (λ p. after_flag c idle word p.0 p.1) (bundle_plain flags (holding rows pending) at)
+  short_plain rows pending (Some flags) at =
+      ap (λ p. after_flag c idle word p.0 p.1) (bundle_plain flags (holding rows pending) at)
 
   pub value_met : (rows : List Row) (pending : Option (Text × List Text)) (position : ℕ)
-      → word_met c names false idle position word (holding rows pending) ≡ (holding rows pending, value)
-  value_met rows pending position = rw (met, is.apart, is.long) (short_plain rows pending (short_of word) refl)
+      → word_met c names false idle position word
+      (holding rows pending) ≡ (holding rows pending, value)
+  value_met rows pending position =
+      rw (met, is.apart, is.long) (short_plain rows pending (short_of word) refl)
 
   pub value_walks : (rows : List Row) (pending : Option (Text × List Text)) (position : ℕ)
-      → walked c names (at rows pending position false) word ≡ to_positional c (arg_by_index c position) word (at rows pending position false) (holding rows pending)
+      → walked c names (at rows pending position false) word ≡ to_positional c
+      (arg_by_index c position) word (at rows pending position false) (holding rows pending)
   unfolding walked
-  value_walks rows pending position = ap (λ p. after_step c word (at rows pending position false) p.0 p.1) (value_met rows pending position)
+  value_walks rows pending position =
+      ap (λ p. after_step c word (at rows pending position false) p.0 p.1)
+      (value_met rows pending position)
 
-module _ (s : Shape) (names : Names) (word : Text) (met : subcommand_met names idle word ≡ None) (is : IsValue word) where
+module _ (s : Shape) (names : Names) (word : Text) (met : subcommand_met names idle word ≡ None)
+    (is : IsValue word) where
   pub value_fault : (rows : List Row) (pending : Option (Text × List Text)) (position : ℕ)
-      → turn_fault s names (at rows pending position false) word ≡ [] → step_fault s position (holding rows pending) value ≡ []
-  value_fault rows pending position e = sym (ap (λ p. step_fault s position p.0 p.1) (value_met s.rules names word met is rows pending position)) ∙ (none_of _ _ e).1
+      → turn_fault s names (at rows pending position false) word ≡ []
+      → step_fault s position (holding rows pending) value ≡ []
+  value_fault rows pending position e =
+      sym (ap (λ p. step_fault s position p.0 p.1)
+      (value_met s.rules names word met is rows pending position)) ∙ (none_of _ _ e).1
 
-  no_flags : (k : ℕ) (flags : Text) (h : Held) → slice_get (chars flags) 0 ≡ None → flags_pass s.rules s.args_override_self k flags 0 h ≡ true
+  no_flags : (k : ℕ) (flags : Text) (h : Held) → slice_get (chars flags) 0 ≡ None
+      → flags_pass s.rules s.args_override_self k flags 0 h ≡ true
   unfolding flags_pass
   no_flags zero flags h none = refl
-  no_flags (suc k) flags h none = ap (λ o. bundle_step_passes s.rules s.args_override_self o flags 0 h (flags_pass s.rules s.args_override_self k)) none
+  no_flags (suc k) flags h none =
+      ap (λ o. bundle_step_passes s.rules s.args_override_self o flags 0 h
+      (flags_pass s.rules s.args_override_self k)) none
 
-  short_passes : (h : Held) (o : Option Text) → short_of word ≡ o → option_map_or (λ flags. flags_pass s.rules s.args_override_self (length flags) flags 0 h) o true ≡ true
+  short_passes : (h : Held) (o : Option Text) → short_of word ≡ o
+      → option_map_or (λ flags. flags_pass s.rules s.args_override_self (length flags) flags 0 h) o
+      true ≡ true
   short_passes h None at = refl
   short_passes h (Some flags) at = no_flags (length flags) flags h (is.short flags at)
 
   pub value_passes : (rows : List Row) (pending : Option (Text × List Text)) (position : ℕ)
-      → step_passes s position (holding rows pending) value ≡ true → turn_passes s names (at rows pending position false) word ≡ true
-  value_passes rows pending position e = rw (value_met s.rules names word met is rows pending position, met, is.apart, is.long, short_passes (holding rows pending) (short_of word) refl) e
+      → step_passes s position (holding rows pending) value ≡ true
+      → turn_passes s names (at rows pending position false) word ≡ true
+  value_passes rows pending position e =
+      rw (
+        value_met s.rules names word met is rows pending position,
+        met,
+        is.apart,
+        is.long,
+        short_passes (holding rows pending) (short_of word) refl,
+      ) e

@@ -9,7 +9,8 @@ pub returns : goal.returns
 returns c =
     let value = c.args.best.now.value in
     let f : FitsSigned w128 value = omega (arith, ints, c.requires.writable.2) in
-    let put : c.put_number.new.text.items ≡ c.extend_from_slice.new.self.items ++ signed_decimal value
+    let put : c.put_number.new.text.items ≡ c.extend_from_slice.new.self.items ++ signed_decimal
+    value
     = simp to_z-of_z at c.in_ok-put_number.ensures in
     seven (λ o x. o ++ x) append_assoc _ _ _ _ _ _ _ _ _ _ _ _ _ _ _
     c.in_ok-extend_from_slice.ensures.items put c.in_ok-extend_from_slice-2.ensures.items

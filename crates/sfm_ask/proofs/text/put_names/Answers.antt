@@ -17,10 +17,14 @@ loop-e-preserved c =
     elim c.if-contains.branch [
       | then-contains+in_ok-push+in_ok-extend_from_slice w ↦
           let has : get_or s e false ≡ true = sym w.if-contains.ensures in
-          rw w.text-is (name-more old c.loop-e.text.items w.push.new.self.items w.extend_from_slice.new.self.items (listed (take e names) (take e s)) (get_or names e []) (listed (take (e + 1) names) (take (e + 1) s))
-          c.loop-e.invariant w.in_ok-push.ensures.items (rw w.name.ensures at w.in_ok-extend_from_slice.ensures.items) (rw has at more))
+          rw w.text-is (name-more old c.loop-e.text.items w.push.new.self.items
+          w.extend_from_slice.new.self.items (listed (take e names) (take e s))
+          (get_or names e []) (listed (take (e + 1) names) (take (e + 1) s))
+          c.loop-e.invariant w.in_ok-push.ensures.items
+          (rw w.name.ensures at w.in_ok-extend_from_slice.ensures.items) (rw has at more))
       | else-contains w ↦
           let has : get_or s e false ≡ false = sym w.if-contains.ensures in
-          let none : listed (take (e + 1) names) (take (e + 1) s) ≡ listed (take e names) (take e s) = (rw has at more) ∙ append-nil (listed (take e names) (take e s)) in
+          let none : listed (take (e + 1) names) (take (e + 1) s) ≡ listed (take e names)
+          (take e s) = (rw has at more) ∙ append-nil (listed (take e names) (take e s)) in
           rw w.text-is (c.loop-e.invariant ∙ ap (λ x. old ++ x) (sym none))
     ]

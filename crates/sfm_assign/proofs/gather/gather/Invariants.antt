@@ -8,7 +8,11 @@ use Rattle.sfm_assign.proofs.gather.gather.Given as goal
 abbrev pub invariant-loop-e : goal.invariant-loop-e
 invariant-loop-e l = record {
   same : length l.answers ≡ length l.initial.answers;
-  told : AreTold l.split.shares.now.cells.whos.items l.split.shares.now.cells.slots.items l.split.shares.now.y.items l.split.rooms.now l.answers;
-  gathered : IsGathered (length l.initial.answers) l.split.shares.now.cells.whos.items l.split.shares.now.cells.slots.items l.split.shares.now.y.items l.split.rooms.now l.u l.to;
-  passed : IsPassed l.e-items l.e-index (IsDone (length l.initial.answers) l.split.shares.now.cells.whos.items l.split.shares.now.cells.slots.items l.split.shares.now.y.items l.split.rooms.now l.to);
+  told : AreTold l.split.shares.now.cells.whos.items l.split.shares.now.cells.slots.items
+      l.split.shares.now.y.items l.split.rooms.now l.answers;
+  gathered : IsGathered (length l.initial.answers) l.split.shares.now.cells.whos.items
+      l.split.shares.now.cells.slots.items l.split.shares.now.y.items l.split.rooms.now l.u l.to;
+  passed : IsPassed l.e-items l.e-index
+      (IsDone (length l.initial.answers) l.split.shares.now.cells.whos.items
+      l.split.shares.now.cells.slots.items l.split.shares.now.y.items l.split.rooms.now l.to);
 }

@@ -10,7 +10,8 @@ pub overflow_add-sum : goal.overflow_add-sum
 overflow_add-sum c =
     let x = c.args.capacities.now in
     let i = c.loop-c.c-index in
-    let a : IsCapacity (get_or x i (pos 0)) = All-get_or IsCapacity x i (pos 0) c.loop-c-test.true c.requires.bounded in
+    let a : IsCapacity (get_or x i (pos 0)) = All-get_or IsCapacity x i (pos 0) c.loop-c-test.true
+    c.requires.bounded in
     let few = c.requires.few in
     let low = c.loop-c.invariant.low in
     let high = c.loop-c.invariant.high in
@@ -20,7 +21,8 @@ pub loop-c-preserved : goal.loop-c-preserved
 loop-c-preserved c =
     let x = c.args.capacities.now in
     let i = c.loop-c.c-index in
-    let a : IsCapacity (get_or x i (pos 0)) = All-get_or IsCapacity x i (pos 0) c.loop-c-test.true c.requires.bounded in
+    let a : IsCapacity (get_or x i (pos 0)) = All-get_or IsCapacity x i (pos 0) c.loop-c-test.true
+    c.requires.bounded in
     let step = ap total_of (drop_more x i (pos 0) c.loop-c-test.true) in
     let few = c.requires.few in
     let inv = c.loop-c.invariant in

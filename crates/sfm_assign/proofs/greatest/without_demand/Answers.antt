@@ -13,7 +13,9 @@ pub bounds-demands-u : goal.bounds-demands-u
 bounds-demands-u c = rw c.demands.ensures.value c.requires
 
 -- with nothing for the demand
-none : (c : After-demands) → (amount_at c.args.demand.now.demands c.args.u +ℤ to_z w128 (of_z w128 (pos 0 -ℤ to_z w128 (of_z w128 (get_or c.demands.result.now c.args.u (pos 0)))))) ≡ pos 0
+none : (c : After-demands) → (amount_at c.args.demand.now.demands c.args.u +ℤ to_z w128
+    (of_z w128 (pos 0 -ℤ to_z w128 (of_z w128 (get_or c.demands.result.now c.args.u (pos 0))))))
+    ≡ pos 0
 none c =
     let u = c.args.u in
     let v : ℤ = get_or c.demands.result.now u (pos 0) in
@@ -23,7 +25,9 @@ none c =
     omega (arith, ints, is, low)
 
 pub raise-requires-clause-amount : goal.raise-requires-clause-amount
-raise-requires-clause-amount c = rw (c.in_ok-others.ensures, none (goal.at.raise-requires-clause-amount c).After-demands) (record { low = omega (arith, ints); high = omega (arith, ints) })
+raise-requires-clause-amount c =
+    rw (c.in_ok-others.ensures, none (goal.at.raise-requires-clause-amount c).After-demands)
+    (record { low = omega (arith, ints); high = omega (arith, ints) })
 
 pub returns : goal.returns
 returns c = rw (c.in_ok-others.ensures, none (goal.at.returns c).After-demands) at c.raise.ensures

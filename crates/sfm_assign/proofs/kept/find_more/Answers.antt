@@ -7,20 +7,32 @@ use Rattle.sfm_assign.proofs.kept.find_more.Goals as goal
 
 -- the split as it stands, of which nothing is lacking
 begun : (c : In_ok-begin) → let s = c.args.split.now.shares.now in
-    MayGrow c.args.demand.now s.cells.whos.items s.cells.slots.items c.begin.new.work.y.items c.begin.new.work.left.lacks.items c.begin.new.work.left.rooms.items c.args.u c.args.limit
+    MayGrow c.args.demand.now s.cells.whos.items s.cells.slots.items c.begin.new.work.y.items
+    c.begin.new.work.left.lacks.items c.begin.new.work.left.rooms.items c.args.u c.args.limit
 begun c =
     let r = c.requires in
     let b = c.in_ok-begin.ensures in
     let fq : FitsSigned w128 c.args.limit = c.ranges.limit in
-    rw (b.amounts, b.rooms) (record { sound = c.demands-sound.ensures.sound; met = r.met; lacks_are = b.lacks; left = r.left; place = r.place; low = r.low; small = r.small })
+    rw (b.amounts, b.rooms) (record {
+      sound = c.demands-sound.ensures.sound;
+      met = r.met;
+      lacks_are = b.lacks;
+      left = r.left;
+      place = r.place;
+      low = r.low;
+      small = r.small;
+    })
 
 pub begin-requires : goal.begin-requires
 begin-requires c = record { met = c.requires.met }
 
 pub raise_most-requires : goal.raise_most-requires
 raise_most-requires c =
-    let fq : FitsSigned w128 c.args.limit = c.ranges.limit in
-    (c.args.demand.now, rw c.all.ensures (simp to_z-of_z (begun (goal.at.raise_most-requires c).In_ok-begin)))
+    let fq : FitsSigned w128 c.args.limit = c.ranges.limit in (
+      c.args.demand.now,
+      rw c.all.ensures
+          (simp to_z-of_z (begun (goal.at.raise_most-requires c).In_ok-begin)),
+    )
 
 pub returns : goal.returns
 returns c =

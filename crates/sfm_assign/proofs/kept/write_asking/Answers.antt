@@ -12,5 +12,6 @@ loop-v-preserved c =
     let places = inv.places in
     rw c.put.ensures (record {
       places = length-set to v c.asks.result ∙ places;
-      asking = told_more (λ (w : ℕ). pos 0 <ℤ amount_at demands w) to v c.asks.result (omega (arith, places)) inv.asking c.asks.ensures;
+      asking = told_more (λ (w : ℕ). pos 0 <ℤ amount_at demands w) to v c.asks.result
+          (omega (arith, places)) inv.asking c.asks.ensures;
     })

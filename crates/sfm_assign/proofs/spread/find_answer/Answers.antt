@@ -7,13 +7,18 @@ loop-at-init c =
     let told = c.in_ok-begin.ensures in
     record {
       from = told.from;
-      spread = rw (told.found, told.marks, told.queue, told.next) (spread_begun (length c.args.answers.now) c.args.shares.now.cells.whos.items c.args.shares.now.cells.slots.items c.args.shares.now.y.items c.args.rooms.now c.args.u c.requires.place);
+      spread = rw (told.found, told.marks, told.queue, told.next)
+          (spread_begun (length c.args.answers.now) c.args.shares.now.cells.whos.items
+          c.args.shares.now.cells.slots.items c.args.shares.now.y.items c.args.rooms.now c.args.u
+          c.requires.place);
     }
 
 pub loop-at-smaller : goal.loop-at-smaller
 loop-at-smaller c =
     let at = c.loop-at.at in
-    let few = spread_few (length c.args.answers.now) c.args.shares.now.cells.whos.items c.args.shares.now.cells.slots.items c.args.shares.now.y.items c.args.rooms.now c.args.u at.found at.marks at.queue.items at.next c.loop-at.invariant.spread in
+    let few = spread_few (length c.args.answers.now) c.args.shares.now.cells.whos.items
+    c.args.shares.now.cells.slots.items c.args.shares.now.y.items c.args.rooms.now c.args.u
+    at.found at.marks at.queue.items at.next c.loop-at.invariant.spread in
     let (more, spread) = rw c.in_default.is at c.in_ok-answer.ensures.end in
     let ok = at.queue.ok.0 in
     omega (arith, few, more, ok)
@@ -33,4 +38,7 @@ returns c =
     let at = c.loop-at.at in
     let ok = at.queue.ok.0 in
     let past : length at.queue.items ≤ at.next = omega arith in
-    rw c.in_ok-found.ensures (spread_done (length c.args.answers.now) c.args.shares.now.cells.whos.items c.args.shares.now.cells.slots.items c.args.shares.now.y.items c.args.rooms.now c.args.u at.found at.marks at.queue.items at.next c.loop-at.invariant.spread past)
+    rw c.in_ok-found.ensures (spread_done (length c.args.answers.now)
+    c.args.shares.now.cells.whos.items c.args.shares.now.cells.slots.items
+    c.args.shares.now.y.items c.args.rooms.now c.args.u at.found at.marks at.queue.items at.next
+    c.loop-at.invariant.spread past)

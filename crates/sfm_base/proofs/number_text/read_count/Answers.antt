@@ -10,8 +10,15 @@ returns-then-is_empty-clause-value c n = (
   λ e. absurd (cc),
   λ p.
       absurd (elim c.then-is_empty.branch [
-        | then-is_empty-via-then-is_empty w ↦ omega (arith, eqb-true _ _ (sym c.is_empty.ensures ∙ w.if-is_empty.true), count_nonempty _ _ p.0)
-        | then-is_empty-via-else-is_empty+then-digits-lt49 w ↦ omega (arith, w.if-digits-lt49.true, p.0.first)
-        | then-is_empty-via-else-is_empty+else-digits-lt49+then-digits-gt-MOST_DIGITS w ↦ omega (arith, w.if-digits-gt-MOST_DIGITS.true, count_short _ _ p.0 p.1)
+        | then-is_empty-via-then-is_empty w ↦
+            omega (
+              arith,
+              eqb-true _ _ (sym c.is_empty.ensures ∙ w.if-is_empty.true),
+              count_nonempty _ _ p.0,
+            )
+        | then-is_empty-via-else-is_empty+then-digits-lt49 w ↦
+            omega (arith, w.if-digits-lt49.true, p.0.first)
+        | then-is_empty-via-else-is_empty+else-digits-lt49+then-digits-gt-MOST_DIGITS w ↦
+            omega (arith, w.if-digits-gt-MOST_DIGITS.true, count_short _ _ p.0 p.1)
       ]),
 )

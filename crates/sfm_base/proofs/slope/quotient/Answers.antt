@@ -8,5 +8,7 @@ use Rattle.sfm_base.proofs.slope.quotient.Goals as goal
 pub returns : goal.returns
 returns c =
     let f : FitsSigned w128 (pos c.args.divisor) = omega (arith, ints) in
-    ap (λ z. pos c.args.divisor *ℤ z) (quot_is w128 c.args.a (pos c.args.divisor) c.ranges.a f (quot_fits w128 c.args.a (pos c.args.divisor) c.ranges.a (omega (arith, ints))))
+    ap (λ z. pos c.args.divisor *ℤ z)
+    (quot_is w128 c.args.a (pos c.args.divisor) c.ranges.a f
+    (quot_fits w128 c.args.a (pos c.args.divisor) c.ranges.a (omega (arith, ints))))
     ∙ quotient_exact c.args.a c.args.divisor c.requires.divides

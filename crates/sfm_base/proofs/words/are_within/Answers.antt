@@ -22,7 +22,8 @@ returns c = (λ _. within, λ _. search rules) where
       let x = get_or c.args.words.now (e / 64) 0 in
       let y = get_or c.args.other.now (e / 64) 0 in
       let i = bit_at_and x y (e % 64) in
-      let d : bit_at (bit_and x y) (e % 64) ≡ bit_at x (e % 64) = ap (λ z. bit_at z (e % 64)) (c.loop-k.invariant (e / 64) (omega (arith, l, c.loop-k-test.false))) in
+      let d : bit_at (bit_and x y) (e % 64) ≡ bit_at x (e % 64) = ap (λ z. bit_at z (e % 64))
+      (c.loop-k.invariant (e / 64) (omega (arith, l, c.loop-k-test.false))) in
       omega (arith, i, d))
       (λ past. let a = past_words c.args.words.now e past in omega (arith, a))
       (cases_lt (e / 64) (length c.args.words.now))

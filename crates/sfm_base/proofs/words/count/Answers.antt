@@ -14,7 +14,8 @@ overflow_add-total c =
     let i = c.loop-word.word-index in
     let fits : get_or words i 0 < 2 ^ 64 = search rules in
     let more = members_more words i fits in
-    let le = members_le words (64 * (i + 1)) (64 * length words) (omega (arith, c.loop-word-test.true)) in
+    let le = members_le words (64 * (i + 1)) (64 * length words)
+    (omega (arith, c.loop-word-test.true)) in
     let before : c.loop-word.total ≡ size (members (64 * i) words) = c.loop-word.invariant in
     omega (arith, more, le, before, c.requires)
 
@@ -23,9 +24,11 @@ loop-word-preserved c =
     let words = c.args.words.now in
     let i = c.loop-word.word-index in
     let fits : get_or words i 0 < 2 ^ 64 = search rules in
-    ap (λ t. t + count_ones (get_or words i 0)) c.loop-word.invariant ∙ sym (members_more words i fits)
+    ap (λ t. t + count_ones (get_or words i 0)) c.loop-word.invariant
+    ∙ sym (members_more words i fits)
 
 pub returns : goal.returns
 returns c =
-    let all : c.loop-word.word-index ≡ length c.args.words.now = omega (arith, c.loop-word.auto.word-index-end, c.loop-word-test.false) in
+    let all : c.loop-word.word-index ≡ length
+    c.args.words.now = omega (arith, c.loop-word.auto.word-index-end, c.loop-word-test.false) in
     c.loop-word.invariant ∙ ap (λ k. size (members (64 * k) c.args.words.now)) all

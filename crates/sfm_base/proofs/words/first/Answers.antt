@@ -17,8 +17,12 @@ returns-then-word-ne0 c =
 
 pub loop-k-preserved : goal.loop-k-preserved
 loop-k-preserved c = λ e l.
-    ⊎_elim (c.loop-k.invariant e) (λ ge. no_bit c.args.words.now c.loop-k.k e (omega (arith, l, ge)) c.if-word-ne0.false) (cases_lt (e / 64) c.loop-k.k)
+    ⊎_elim (c.loop-k.invariant e)
+    (λ ge. no_bit c.args.words.now c.loop-k.k e (omega (arith, l, ge)) c.if-word-ne0.false)
+    (cases_lt (e / 64) c.loop-k.k)
 
 pub returns : goal.returns
 returns c = λ e.
-    ⊎_elim (c.loop-k.invariant e) (λ ge. past_words c.args.words.now e (omega (arith, ge, c.loop-k-test.false))) (cases_lt (e / 64) c.loop-k.k)
+    ⊎_elim (c.loop-k.invariant e)
+    (λ ge. past_words c.args.words.now e (omega (arith, ge, c.loop-k-test.false)))
+    (cases_lt (e / 64) c.loop-k.k)

@@ -11,6 +11,11 @@ use Rattle.sfm_c.proofs.Making.{stands}
 use Rattle.sfm_c.proofs.make.edit_by.Goals as goal
 
 pub returns-in-Ok : goal.returns-in-Ok
-returns-in-Ok c = stands (LeadsTo (question_of c.args.instance) c.args.edits.now) (codes "edits") (IsFaultIn (side_language (edits_form c.args.instance)) c.args.edits.now)
-    (λ edited. IsDone (IsSolved edited)) (question_of c.in-Ok.edited.instance)
-    (editing_of c.in-Ok.edited, refl, kinds-mean c.in-Ok.edited.instance.terms, c.in-Ok.ensures.edited) c.due_to_solve.result c.due_to_solve.ensures
+returns-in-Ok c = stands (LeadsTo (question_of c.args.instance) c.args.edits.now) (codes "edits")
+    (IsFaultIn (side_language (edits_form c.args.instance)) c.args.edits.now)
+    (λ edited. IsDone (IsSolved edited)) (question_of c.in-Ok.edited.instance) (
+      editing_of c.in-Ok.edited,
+      refl,
+      kinds-mean c.in-Ok.edited.instance.terms,
+      c.in-Ok.ensures.edited,
+    ) c.due_to_solve.result c.due_to_solve.ensures

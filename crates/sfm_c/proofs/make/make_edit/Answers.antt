@@ -5,4 +5,5 @@ use Rattle.sfm_c.proofs.make.make_edit.Goals as goal
 
 pub returns-in-Ok : goal.returns-in-Ok
 returns-in-Ok c = for_instance c.args.text.now c.in-Ok.instance c.in-Ok.ensures.read
-    (λ asked. IsDueForEdits asked c.args.edits.now (λ edited. IsDone (IsSolved edited))) c.edit_by.result c.edit_by.ensures
+    (λ asked. IsDueForEdits asked c.args.edits.now (λ edited. IsDone (IsSolved edited)))
+    c.edit_by.result c.edit_by.ensures

@@ -5,4 +5,5 @@ use Rattle.sfm_c.proofs.make.make_weigh.Goals as goal
 
 pub returns-in-Ok : goal.returns-in-Ok
 returns-in-Ok c = for_instance c.args.text.now c.in-Ok.instance c.in-Ok.ensures.read
-    (λ asked. IsDueForSizes asked c.args.sizes.now (λ by. IsDone (IsWeighed asked by))) c.weigh_by.result c.weigh_by.ensures
+    (λ asked. IsDueForSizes asked c.args.sizes.now (λ by. IsDone (IsWeighed asked by)))
+    c.weigh_by.result c.weigh_by.ensures

@@ -5,4 +5,5 @@ use Rattle.sfm_c.proofs.make.make_weighed.Goals as goal
 
 pub returns-in-Ok : goal.returns-in-Ok
 returns-in-Ok c = for_instance c.args.text.now c.in-Ok.instance c.in-Ok.ensures.read
-    (λ asked. IsDueForSizes asked c.args.sizes.now (λ by. IsJudgedBySizes asked by c.args.answer.now)) c.check_by.result c.check_by.ensures
+    (λ asked. IsDueForSizes asked c.args.sizes.now
+    (λ by. IsJudgedBySizes asked by c.args.answer.now)) c.check_by.result c.check_by.ensures

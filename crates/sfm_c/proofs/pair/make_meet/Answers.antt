@@ -6,4 +6,5 @@ use Rattle.sfm_c.proofs.pair.make_meet.Goals as goal
 pub returns-in-Ok : goal.returns-in-Ok
 returns-in-Ok c = for_left c.args.left.now c.in-Ok.numbered
     (lined c.args.left.now c.in-Ok.numbered c.in-Ok.ensures.read c.in-Ok.ensures.numbered)
-    (λ l. IsDueForRight l c.args.right.now (λ r. IsDone (IsMeeting l.asked r.asked))) c.meet_by.result c.meet_by.ensures
+    (λ l. IsDueForRight l c.args.right.now (λ r. IsDone (IsMeeting l.asked r.asked)))
+    c.meet_by.result c.meet_by.ensures

@@ -16,5 +16,6 @@ returns-in_ok-refuse_clash-in-Some c = λ text is. for_clash c.args.left.now c.a
     c.in_ok-refuse_clash-in-Some.field-0 c.in_ok-refuse_clash-in-Some.ensures
 
 pub returns-in-None : goal.returns-in-None
-returns-in-None c = λ text is. for_both c.args.left.now c.args.right.now text c.requires.left c.requires.right
+returns-in-None c = λ text is. for_both c.args.left.now c.args.right.now text c.requires.left
+    c.requires.right
     c.in-None.ensures is (behind c.args.left.now) c.due_to_meet.result c.due_to_meet.ensures

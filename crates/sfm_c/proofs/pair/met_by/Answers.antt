@@ -15,5 +15,6 @@ returns-in-Ok c = c.met_of.ensures c.args.right.now
     (lined c.args.right.now c.in-Ok.numbered c.in-Ok.ensures.read c.in-Ok.ensures.numbered)
 
 pub returns-in-Err : goal.returns-in-Err
-returns-in-Err c = for_fault (lined_of c.args.left.now) c.args.right.now (behind c.args.left.now c.args.answer.now)
+returns-in-Err c = for_fault (lined_of c.args.left.now) c.args.right.now
+    (behind c.args.left.now c.args.answer.now)
     c.in-Err.end c.in-Err.ensures.refused c.due_for_end.result c.due_for_end.ensures

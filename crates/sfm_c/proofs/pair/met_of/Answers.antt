@@ -15,5 +15,7 @@ returns-in_ok-refuse_clash-in-Some c = λ text is. for_clash c.args.left.now c.a
     c.in_ok-refuse_clash-in-Some.field-0 c.in_ok-refuse_clash-in-Some.ensures
 
 pub returns-in-None : goal.returns-in-None
-returns-in-None c = λ text is. for_both c.args.left.now c.args.right.now text c.requires.left c.requires.right
-    c.in-None.ensures is (behind c.args.left.now c.args.answer.now) c.met_judged.result c.met_judged.ensures
+returns-in-None c = λ text is. for_both c.args.left.now c.args.right.now text c.requires.left
+    c.requires.right
+    c.in-None.ensures is (behind c.args.left.now c.args.answer.now) c.met_judged.result
+    c.met_judged.ensures

@@ -17,5 +17,10 @@ returns c =
     let g : FitsSigned w128 c.args.a = c.ranges.a in
     let low = c.requires.low in
     let high = c.requires.high in
-    let h : FitsSigned w128 (get_or c.args.to.now c.args.k (pos 0) +ℤ c.args.a) = omega (arith, ints, low, high) in
+    let h : FitsSigned w128 (get_or c.args.to.now c.args.k (pos 0) +ℤ c.args.a) = omega (
+      arith,
+      ints,
+      low,
+      high,
+    ) in
     simp to_z-of_z

@@ -6,4 +6,6 @@ pub loop-preserved : goal.loop-preserved
 loop-preserved c =
     let i = c.args.i in
     let whos = c.args.whos.now.items in
-    c.in_ok-push.ensures.items ∙ (ap (λ w. w ++ i ∷ []) c.loop.invariant ∙ (append_assoc whos (replicate c.loop.counter i) (i ∷ []) ∙ ap (λ r. whos ++ r) (replicate_more c.loop.counter i)))
+    c.in_ok-push.ensures.items ∙ (ap (λ w. w ++ i ∷ []) c.loop.invariant
+    ∙ (append_assoc whos (replicate c.loop.counter i) (i ∷ [])
+    ∙ ap (λ r. whos ++ r) (replicate_more c.loop.counter i)))

@@ -15,5 +15,9 @@ returns c =
     let fm : FitsSigned w128 m = c.ranges.m in
     let multiples = c.in_ok-multiples.multiples in
     let long = ap length c.deref_mut.ensures.value ∙ sym multiples.ok.0 in
-    let scaled : c.scale.new.numbers ≡ map (λ a. m *ℤ a) c.deref_mut.result.now = simp to_z-of_z at c.scale.ensures in
-    written c.scale.new.numbers (drop (length c.scale.new.numbers) multiples.items) multiples.len (c.scale.auto.numbers ∙ long) ∙ (scaled ∙ ap (map (λ a. m *ℤ a)) (c.deref_mut.ensures.value ∙ c.in_ok-multiples.ensures.items))
+    let scaled : c.scale.new.numbers ≡ map (λ a. m *ℤ a) c.deref_mut.result.now = simp to_z-of_z at
+    c.scale.ensures in
+    written c.scale.new.numbers (drop (length c.scale.new.numbers) multiples.items) multiples.len
+    (c.scale.auto.numbers ∙ long)
+    ∙ (scaled ∙ ap (map (λ a. m *ℤ a))
+    (c.deref_mut.ensures.value ∙ c.in_ok-multiples.ensures.items))

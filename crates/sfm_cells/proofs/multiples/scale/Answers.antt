@@ -10,15 +10,21 @@ use Rattle.sfm_cells.proofs.multiples.scale.Goals.{At-loop-i}
 use Rattle.sfm_cells.proofs.multiples.scale.Goals as goal
 
 -- the numbers so far
-so_far : (c : At-loop-i) → let xs = c.args.numbers.now in let all = map (λ a. c.args.m *ℤ a) xs in (c.loop-i.numbers ≡ turned c.loop-i.i all xs) × AreTurned c.loop-i.i all xs
+so_far : (c : At-loop-i) → let xs = c.args.numbers.now in let all = map (λ a. c.args.m *ℤ a)
+    xs in (c.loop-i.numbers ≡ turned c.loop-i.i all xs) × AreTurned c.loop-i.i all xs
 so_far c =
     let m = c.args.m in
     let fm : FitsSigned w128 m = c.ranges.m in
-    let xs = c.args.numbers.now in
-    (simp to_z-of_z at c.loop-i.invariant, are_turned c.loop-i.i (map (λ a. m *ℤ a) xs) xs (sym (length-map xs (λ a. m *ℤ a))))
+    let xs = c.args.numbers.now in (
+      simp to_z-of_z at c.loop-i.invariant,
+      are_turned c.loop-i.i (map (λ a. m *ℤ a) xs) xs (sym (length-map xs (λ a. m *ℤ a))),
+    )
 
 -- the next number, and m times it, which is an amount
-next : (c : At-loop-i) → c.loop-i.i < length c.args.numbers.now → let x = get_or c.loop-i.numbers c.loop-i.i (pos 0) in ((c.args.m *ℤ x) ≡ amount_at (map (λ a. c.args.m *ℤ a) c.args.numbers.now) c.loop-i.i) × FitsSigned w128 (c.args.m *ℤ x)
+next : (c : At-loop-i) → c.loop-i.i < length c.args.numbers.now
+    → let x = get_or c.loop-i.numbers c.loop-i.i
+    (pos 0) in ((c.args.m *ℤ x) ≡ amount_at (map (λ a. c.args.m *ℤ a) c.args.numbers.now)
+    c.loop-i.i) × FitsSigned w128 (c.args.m *ℤ x)
 next c lt =
     let m = c.args.m in
     let xs = c.args.numbers.now in
@@ -27,7 +33,8 @@ next c lt =
     let all = map (λ a. m *ℤ a) xs in
     let x = ap (λ l. amount_at l i) is ∙ t.next in
     let q = get_or-map (λ a. m *ℤ a) xs i (pos 0) (pos 0) lt in
-    let h : IsAmount (amount_at all i) = All-get_or IsAmount all i (pos 0) (rw (length-map xs (λ a. m *ℤ a)) lt) c.requires in
+    let h : IsAmount (amount_at all i) = All-get_or IsAmount all i (pos 0)
+    (rw (length-map xs (λ a. m *ℤ a)) lt) c.requires in
     let same = ap (λ a. m *ℤ a) x ∙ sym q in
     (same, rw same (omega (arith, ints, h.low, h.high)))
 
@@ -51,7 +58,8 @@ loop-i-preserved c =
     let (same, fp) = next here (omega arith) in
     let (is, t) = so_far here in
     let all = map (λ a. m *ℤ a) c.args.numbers.now in
-    let done : set c.loop-i.numbers i (m *ℤ x) ≡ turned (i + 1) all c.args.numbers.now = rw (same, is, add-one) t.more in
+    let done : set c.loop-i.numbers i (m *ℤ x) ≡ turned (i + 1) all
+    c.args.numbers.now = rw (same, is, add-one) t.more in
     simp to_z-of_z done
 
 pub returns : goal.returns

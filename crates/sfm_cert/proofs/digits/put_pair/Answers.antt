@@ -13,8 +13,11 @@ returns c =
     elim c.if-n-ge10.branch [
       | then-n-ge10 w ↦
           let tenth : n / 10 < 10 = omega (arith, c.requires) in
-          let tens : c.if-n-ge10.page ≡ after_page page (decimal (n / 10)) = w.page-is ∙ (w.put_digit.ensures ∙ ap (after_page page) (sym (decimal_digit (n / 10) tenth))) in
-          digit_behind page _ _ n (omega (arith, w.if-n-ge10)) (omega (arith, c.requires)) tens c.put_digit-2.ensures
+          let tens : c.if-n-ge10.page ≡ after_page page (decimal (n / 10)) = w.page-is
+          ∙ (w.put_digit.ensures ∙ ap (after_page page) (sym (decimal_digit (n / 10) tenth))) in
+          digit_behind page _ _ n (omega (arith, w.if-n-ge10)) (omega (arith, c.requires)) tens
+          c.put_digit-2.ensures
       | else-n-ge10 w ↦
-          c.put_digit-2.ensures ∙ (ap (λ p. after_page p ((48 + n % 10) ∷ [])) w.page-is ∙ ap (after_page page) (last_digit n (omega (arith, w.if-n-ge10))))
+          c.put_digit-2.ensures ∙ (ap (λ p. after_page p ((48 + n % 10) ∷ [])) w.page-is
+          ∙ ap (after_page page) (last_digit n (omega (arith, w.if-n-ge10))))
     ]

@@ -10,5 +10,8 @@ use Rattle.sfm_cert.proofs.put.put_block.Goals as goal
 pub returns : goal.returns
 returns g c =
     let block = block_of c.args.block.now in
-    simp append_assoc (six g.O.Out.after g.met.O.Out.joined _ _ _ _ _ _ _ (codes "block ") (decimal c.args.number) (listed c.args.instance.now.names block.members) (codes " :") (counted block.needs) (10 ∷ [])
-    c.put.ensures c.put_count.ensures c.put_names.ensures c.put-2.ensures (rw c.deref.ensures.value at c.put_counts.ensures) c.put_byte.ensures)
+    simp append_assoc (six g.O.Out.after g.met.O.Out.joined _ _ _ _ _ _ _ (codes "block ")
+    (decimal c.args.number) (listed c.args.instance.now.names block.members) (codes " :")
+    (counted block.needs) (10 ∷ [])
+    c.put.ensures c.put_count.ensures c.put_names.ensures c.put-2.ensures
+    (rw c.deref.ensures.value at c.put_counts.ensures) c.put_byte.ensures)

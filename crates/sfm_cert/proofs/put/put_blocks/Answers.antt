@@ -11,8 +11,14 @@ use Rattle.sfm_cert.proofs.put.put_blocks.Goals as goal
 pub put_block-requires : goal.put_block-requires
 put_block-requires g c =
     let i = c.loop-i.i in
-    let h : i < length (map block_of c.args.blocks.now) = omega (arith, c.loop-i-test.true, length-map c.args.blocks.now block_of) in
-    sym (c.requires i h) ∙ ap (λ b. length b.members) (item_at block_of c.args.blocks.now i c.index-blocks-i.result no_block c.loop-i-test.true c.index-blocks-i.is)
+    let h : i < length (map block_of c.args.blocks.now) = omega (
+      arith,
+      c.loop-i-test.true,
+      length-map c.args.blocks.now block_of,
+    ) in
+    sym (c.requires i h) ∙ ap (λ b. length b.members)
+    (item_at block_of c.args.blocks.now i c.index-blocks-i.result no_block c.loop-i-test.true
+    c.index-blocks-i.is)
 
 pub loop-i-preserved : goal.loop-i-preserved
 loop-i-preserved g c =
@@ -20,7 +26,14 @@ loop-i-preserved g c =
     let bs = map block_of c.args.blocks.now in
     let i = c.loop-i.i in
     let b = block_of c.index-blocks-i.result in
-    let h : i < length bs = omega (arith, c.loop-i-test.true, length-map c.args.blocks.now block_of) in
-    let e : get_or bs i no_block ≡ b = item_at block_of c.args.blocks.now i c.index-blocks-i.result no_block c.loop-i-test.true c.index-blocks-i.is in
-    appended_lines g.O.Out.after g.met.O.Out.joined _ _ _ (block_lines names 1 (take i bs)) (block_line names (i + 1) b ∷ []) (block_lines names 1 (take (i + 1) bs)) c.loop-i.invariant c.put_block.ensures
+    let h : i < length bs = omega (
+      arith,
+      c.loop-i-test.true,
+      length-map c.args.blocks.now block_of,
+    ) in
+    let e : get_or bs i no_block ≡ b = item_at block_of c.args.blocks.now i c.index-blocks-i.result
+    no_block c.loop-i-test.true c.index-blocks-i.is in
+    appended_lines g.O.Out.after g.met.O.Out.joined _ _ _ (block_lines names 1 (take i bs))
+    (block_line names (i + 1) b ∷ []) (block_lines names 1 (take (i + 1) bs)) c.loop-i.invariant
+    c.put_block.ensures
     (block_lines-more names bs i no_block b h e)

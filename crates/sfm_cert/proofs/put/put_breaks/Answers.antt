@@ -11,8 +11,14 @@ pub put_break-requires : goal.put_break-requires
 put_break-requires g c =
     let i = c.loop-b.b-index in
     let b = c.b-item.result in
-    let h : i < length (map break_of c.args.breaks.now) = omega (arith, c.loop-b-test.true, length-map c.args.breaks.now break_of) in
-    sym (c.requires i (break_of b) h) ∙ ap (λ x. length x.members) (item_at break_of c.args.breaks.now i b (break_of b) c.loop-b-test.true c.b-item.is)
+    let h : i < length (map break_of c.args.breaks.now) = omega (
+      arith,
+      c.loop-b-test.true,
+      length-map c.args.breaks.now break_of,
+    ) in
+    sym (c.requires i (break_of b) h)
+    ∙ ap (λ x. length x.members)
+    (item_at break_of c.args.breaks.now i b (break_of b) c.loop-b-test.true c.b-item.is)
 
 pub loop-b-preserved : goal.loop-b-preserved
 loop-b-preserved g c =
@@ -20,7 +26,14 @@ loop-b-preserved g c =
     let bs = map break_of c.args.breaks.now in
     let i = c.loop-b.b-index in
     let b = break_of c.b-item.result in
-    let h : i < length bs = omega (arith, c.loop-b-test.true, length-map c.args.breaks.now break_of) in
-    let e : get_or bs i b ≡ b = item_at break_of c.args.breaks.now i c.b-item.result b c.loop-b-test.true c.b-item.is in
-    appended_lines g.O.Out.after g.met.O.Out.joined _ _ _ (slope_lines names (take i bs)) (slope_line names b ∷ []) (slope_lines names (take (i + 1) bs)) c.loop-b.invariant c.put_break.ensures
+    let h : i < length bs = omega (
+      arith,
+      c.loop-b-test.true,
+      length-map c.args.breaks.now break_of,
+    ) in
+    let e : get_or bs i b ≡ b = item_at break_of c.args.breaks.now i c.b-item.result b
+    c.loop-b-test.true c.b-item.is in
+    appended_lines g.O.Out.after g.met.O.Out.joined _ _ _ (slope_lines names (take i bs))
+    (slope_line names b ∷ []) (slope_lines names (take (i + 1) bs)) c.loop-b.invariant
+    c.put_break.ensures
     (slope_lines-more names bs i b b h e)

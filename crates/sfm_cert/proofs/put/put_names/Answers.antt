@@ -14,10 +14,16 @@ loop-e-preserved g c =
     elim c.if-contains.branch [
       | then-contains w ↦
           let has : get_or s e false ≡ true = sym w.if-contains.ensures in
-          let put : c.if-contains.out ≡ g.O.Out.after c.loop-e.out (32 ∷ get_or names e []) = w.out-is ∙ (w.put_name.ensures ∙ ap (λ n. g.O.Out.after c.loop-e.out (32 ∷ n)) w.name.ensures) in
-          appended g.O.Out.after g.met.O.Out.joined _ _ _ _ _ _ c.loop-e.invariant put (rw has at more)
+          let put : c.if-contains.out ≡ g.O.Out.after c.loop-e.out
+          (32 ∷ get_or names e []) =
+          w.out-is ∙ (w.put_name.ensures ∙ ap (λ n. g.O.Out.after c.loop-e.out (32 ∷ n))
+          w.name.ensures) in
+          appended g.O.Out.after g.met.O.Out.joined _ _ _ _ _ _ c.loop-e.invariant put
+          (rw has at more)
       | else-contains w ↦
           let has : get_or s e false ≡ false = sym w.if-contains.ensures in
-          let put : c.if-contains.out ≡ g.O.Out.after c.loop-e.out [] = w.out-is ∙ sym (g.met.O.Out.nothing c.loop-e.out) in
-          appended g.O.Out.after g.met.O.Out.joined _ _ _ _ _ _ c.loop-e.invariant put (rw has at more)
+          let put : c.if-contains.out ≡ g.O.Out.after c.loop-e.out [] = w.out-is
+          ∙ sym (g.met.O.Out.nothing c.loop-e.out) in
+          appended g.O.Out.after g.met.O.Out.joined _ _ _ _ _ _ c.loop-e.invariant put
+          (rw has at more)
     ]

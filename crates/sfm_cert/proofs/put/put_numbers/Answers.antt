@@ -12,6 +12,9 @@ pub loop-a-preserved : goal.loop-a-preserved
 loop-a-preserved g c =
     let x = c.args.numbers.now in
     let i = c.loop-a.a-index in
-    let f : FitsSigned w128 (get_or x i (pos 0)) = entry_fits _ (All-get_or IsEntry x i (pos 0) c.loop-a-test.true c.requires) in
-    let put : c.put_entry.new.out ≡ g.O.Out.after c.loop-a.out (32 ∷ signed_decimal (get_or x i (pos 0))) = simp to_z-of_z at c.put_entry.ensures in
-    appended g.O.Out.after g.met.O.Out.joined _ _ _ _ _ _ c.loop-a.invariant put (numbered-more x i c.loop-a-test.true)
+    let f : FitsSigned w128 (get_or x i (pos 0)) = entry_fits _
+    (All-get_or IsEntry x i (pos 0) c.loop-a-test.true c.requires) in
+    let put : c.put_entry.new.out ≡ g.O.Out.after c.loop-a.out
+    (32 ∷ signed_decimal (get_or x i (pos 0))) = simp to_z-of_z at c.put_entry.ensures in
+    appended g.O.Out.after g.met.O.Out.joined _ _ _ _ _ _ c.loop-a.invariant put
+    (numbered-more x i c.loop-a-test.true)

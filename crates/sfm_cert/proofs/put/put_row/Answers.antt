@@ -6,5 +6,6 @@ use Rattle.sfm_cert.proofs.put.put_row.Goals as goal
 
 pub returns : goal.returns
 returns g c =
-    simp append_assoc (four g.O.Out.after g.met.O.Out.joined _ _ _ _ _ c.args.word.now (spot_label c.args.spot) (numbered c.args.row.now) (10 ∷ [])
+    simp append_assoc (four g.O.Out.after g.met.O.Out.joined _ _ _ _ _ c.args.word.now
+    (spot_label c.args.spot) (numbered c.args.row.now) (10 ∷ [])
     c.put.ensures c.put_label.ensures c.put_numbers.ensures c.put_byte.ensures)

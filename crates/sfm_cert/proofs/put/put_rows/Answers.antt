@@ -13,20 +13,32 @@ use Rattle.sfm_cert.proofs.put.put_rows.Goals.{In-loop-i}
 use Rattle.sfm_cert.proofs.put.put_rows.Goals as goal
 
 -- a term is left
-labelled : (g : given.Over) (c : In-loop-i g) → c.loop-i.i < length (labels_of c.args.instance.now.lines)
-labelled g c = omega (arith, c.loop-i-test.true, c.len-i-end.ensures, c.requires.count, length-labels c.args.instance.now.lines, c.lines-lines.ensures.lined)
+labelled : (g : given.Over) (c : In-loop-i g)
+    → c.loop-i.i < length (labels_of c.args.instance.now.lines)
+labelled g c = omega (
+  arith,
+  c.loop-i-test.true,
+  c.len-i-end.ensures,
+  c.requires.count,
+  length-labels c.args.instance.now.lines,
+  c.lines-lines.ensures.lined,
+)
 
-before : (g : given.Over) (c : In-loop-i g) → c.loop-i.spot.before < length c.args.instance.now.lines
-before g c = stands_before c.args.instance.now.lines c.loop-i.i c.loop-i.spot c.loop-i.invariant.1 (labelled g c)
+before : (g : given.Over) (c : In-loop-i g)
+    → c.loop-i.spot.before < length c.args.instance.now.lines
+before g c = stands_before c.args.instance.now.lines c.loop-i.i c.loop-i.spot c.loop-i.invariant.1
+    (labelled g c)
 
 pub put_row-requires-clause-few : goal.put_row-requires-clause-few
 put_row-requires-clause-few g c =
-    let few = (few_lines_of (length c.args.instance.now.names) c.args.instance.now c.terms.ensures.bounded c.lines-lines.ensures.lined).count in
+    let few = (few_lines_of (length c.args.instance.now.names) c.args.instance.now
+    c.terms.ensures.bounded c.lines-lines.ensures.lined).count in
     let l = before g (goal.at.put_row-requires-clause-few g c).In-loop-i in
     omega (arith, few, l)
 
 pub next-spot-requires : goal.next-spot-requires
-next-spot-requires g c = rw c.lines-lines.ensures.lines (before g (goal.at.next-spot-requires g c).In-loop-i)
+next-spot-requires g c = rw c.lines-lines.ensures.lines
+    (before g (goal.at.next-spot-requires g c).In-loop-i)
 
 pub loop-i-preserved : goal.loop-i-preserved
 loop-i-preserved g c =
@@ -37,11 +49,21 @@ loop-i-preserved g c =
     let d = (goal.at.loop-i-preserved g c).In-loop-i in
     let h : i < length rows = omega (arith, c.len-i-end.ensures) in
     let n : 1 + length (take i rows) ≡ i + 1 = omega (arith, length-take i rows) in
-    let label : spot_label c.loop-i.spot ≡ label_in lines (i + 1) = sym (stands_label lines i c.loop-i.spot c.loop-i.invariant.1 (labelled g d)) in
-    let put : c.put_row.new.out ≡ g.O.Out.after c.loop-i.out (text_of (row_line word (spot_label c.loop-i.spot) (get_or rows i []) ∷ [])) = rw (← c.row.ensures) c.put_row.ensures in (
-      appended_lines g.O.Out.after g.met.O.Out.joined _ _ _ (row_lines word lines 1 (take i rows)) (row_line word (spot_label c.loop-i.spot) (get_or rows i []) ∷ []) (row_lines word lines 1 (take (i + 1) rows)) c.loop-i.invariant.0 put
-          (ap (λ r. row_lines word lines 1 r) (take_more rows i [] h) ∙ row_lines-push word lines 1 (take i rows) (get_or rows i [])
-          ∙ ap (λ m. row_lines word lines 1 (take i rows) ++ row_line word (label_in lines m) (get_or rows i []) ∷ []) n
-          ∙ ap (λ l. row_lines word lines 1 (take i rows) ++ row_line word l (get_or rows i []) ∷ []) (sym label)),
-      rw (← c.lines-lines.ensures.lines) (c.next-spot.ensures i (rw c.lines-lines.ensures.lines c.loop-i.invariant.1) (rw c.lines-lines.ensures.lines (labelled g d))),
+    let label : spot_label c.loop-i.spot ≡ label_in lines (i + 1) = sym
+    (stands_label lines i c.loop-i.spot c.loop-i.invariant.1 (labelled g d)) in
+    let put : c.put_row.new.out ≡ g.O.Out.after c.loop-i.out
+    (text_of (row_line word (spot_label c.loop-i.spot) (get_or rows i []) ∷ [])) =
+    rw (← c.row.ensures) c.put_row.ensures in (
+      appended_lines g.O.Out.after g.met.O.Out.joined _ _ _ (row_lines word lines 1 (take i rows))
+          (row_line word (spot_label c.loop-i.spot) (get_or rows i []) ∷ [])
+          (row_lines word lines 1 (take (i + 1) rows)) c.loop-i.invariant.0 put
+          (ap (λ r. row_lines word lines 1 r) (take_more rows i [] h)
+          ∙ row_lines-push word lines 1 (take i rows) (get_or rows i [])
+          ∙ ap (λ m. row_lines word lines 1 (take i rows) ++ row_line word (label_in lines m)
+          (get_or rows i []) ∷ []) n
+          ∙ ap (λ l. row_lines word lines 1 (take i rows) ++ row_line word l
+          (get_or rows i []) ∷ []) (sym label)),
+      rw (← c.lines-lines.ensures.lines)
+          (c.next-spot.ensures i (rw c.lines-lines.ensures.lines c.loop-i.invariant.1)
+          (rw c.lines-lines.ensures.lines (labelled g d))),
     )

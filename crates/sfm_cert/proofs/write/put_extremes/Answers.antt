@@ -14,7 +14,11 @@ returns g c =
     let s = c.args.solved.now in
     let names = c.args.instance.now.names in
     let f : FitsSigned w128 s.value = entry_fits _ c.requires.value in
-    let put : c.put_number.new.out ≡ g.O.Out.after c.put-2.new.self (signed_decimal s.value) = simp to_z-of_z at c.put_number.ensures in
-    simp append_assoc (eight g.O.Out.after g.met.O.Out.joined _ _ _ _ _ _ _ _ _ (header_text c.args.header) (10 ∷ codes "minimum ") (signed_decimal s.value) (10 ∷ codes "least") (listed names s.least)
+    let put : c.put_number.new.out ≡ g.O.Out.after c.put-2.new.self
+    (signed_decimal s.value) = simp to_z-of_z at c.put_number.ensures in
+    simp append_assoc (eight g.O.Out.after g.met.O.Out.joined _ _ _ _ _ _ _ _ _
+    (header_text c.args.header) (10 ∷ codes "minimum ") (signed_decimal s.value)
+    (10 ∷ codes "least") (listed names s.least)
     (10 ∷ codes "greatest") (listed names s.greatest) (10 ∷ [])
-    (rw c.text.ensures at c.put.ensures) c.put-2.ensures put c.put-3.ensures c.put_names.ensures c.put-4.ensures c.put_names-2.ensures c.put-5.ensures)
+    (rw c.text.ensures at c.put.ensures) c.put-2.ensures put c.put-3.ensures c.put_names.ensures
+    c.put-4.ensures c.put_names-2.ensures c.put-5.ensures)

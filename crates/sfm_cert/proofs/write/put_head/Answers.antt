@@ -10,5 +10,9 @@ pub returns : goal.returns
 returns g c =
     let names = c.args.instance.now.names in
     let s = c.args.solved.now in
-    three_lines g.O.Out.after g.met.O.Out.joined _ _ _ _ (first_lines (form_with (header_text c.args.header) c.args.instance.now) (answer_of s)) (block_lines names 1 (map block_of s.blocks.items)) (slope_lines names (map break_of s.breaks.items))
-    c.put_extremes.ensures (rw c.deref.ensures.value at c.put_blocks.ensures) (rw c.deref-2.ensures.value at c.put_breaks.ensures)
+    three_lines g.O.Out.after g.met.O.Out.joined _ _ _ _
+    (first_lines (form_with (header_text c.args.header) c.args.instance.now) (answer_of s))
+    (block_lines names 1 (map block_of s.blocks.items))
+    (slope_lines names (map break_of s.breaks.items))
+    c.put_extremes.ensures (rw c.deref.ensures.value at c.put_blocks.ensures)
+    (rw c.deref-2.ensures.value at c.put_breaks.ensures)

@@ -5,4 +5,5 @@ use Rattle.sfm_cert.specs.Solved.{break_of}
 use Rattle.sfm_cert.proofs.write.put_proofs.Given as goal
 
 abbrev pub invariant-loop-b : goal.invariant-loop-b
-invariant-loop-b g l = l.out ≡ g.O.Out.after l.initial.out (text_of (break_lines l.instance.lines (take l.b-index (map break_of l.breaks))))
+invariant-loop-b g l = l.out ≡ g.O.Out.after l.initial.out
+    (text_of (break_lines l.instance.lines (take l.b-index (map break_of l.breaks))))

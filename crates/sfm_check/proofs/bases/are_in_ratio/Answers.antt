@@ -15,7 +15,8 @@ pub overflow_mul-known : goal.overflow_mul-known
 overflow_mul-known c =
     let r = c.requires in
     let a = get_or c.args.at.now.x.now c.loop-i.i (pos 0) in
-    let is : IsEntry a = All-get_or IsEntry c.args.at.now.x.now c.loop-i.i (pos 0) c.loop-i-test.true r.small in
+    let is : IsEntry a = All-get_or IsEntry c.args.at.now.x.now c.loop-i.i (pos 0)
+    c.loop-i-test.true r.small in
     let fq : FitsSigned w128 c.args.known.now.q = factor_fits _ r.other in
     let fa : FitsSigned w128 a = one_fits a is in
     simp to_z-of_z (entry_fits c.args.known.now.q a r.other is)

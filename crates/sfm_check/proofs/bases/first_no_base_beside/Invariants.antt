@@ -7,4 +7,6 @@ use Rattle.sfm_kind.specs.Kinds.{kind_places, kind_value}
 use Rattle.sfm_check.proofs.bases.first_no_base_beside.Given as goal
 
 abbrev pub invariant-loop-i : goal.invariant-loop-i
-invariant-loop-i l = (j : ℕ) → j < l.i → IsBase (times l.section.den (term_at (meanings kind_places kind_value l.terms) j).value) (base_at l.section.bases.now j)
+invariant-loop-i l = (j : ℕ) → j < l.i
+    → IsBase (times l.section.den (term_at (meanings kind_places kind_value l.terms) j).value)
+    (base_at l.section.bases.now j)

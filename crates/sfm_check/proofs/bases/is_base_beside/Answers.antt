@@ -8,5 +8,9 @@ returns-then-are_in_ratio c =
     let r = c.requires in
     let k = r.known in
     let at = c.args.at.now in
-    let known = c.args.known.now in
-    ((λ yes. base_in_ratio (kind_value c.args.term.now) known.q at.q at.x.now known.x.now k.factor.low r.factor.low (r.entries ∙ sym k.entries) (c.are_in_ratio.ensures c.if-are_in_ratio.true) k.base), (λ base. refl))
+    let known = c.args.known.now in (
+      (λ yes. base_in_ratio (kind_value c.args.term.now) known.q at.q at.x.now known.x.now
+          k.factor.low r.factor.low (r.entries ∙ sym k.entries)
+          (c.are_in_ratio.ensures c.if-are_in_ratio.true) k.base),
+      (λ base. refl),
+    )

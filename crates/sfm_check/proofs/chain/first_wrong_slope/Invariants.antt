@@ -8,5 +8,7 @@ use Rattle.sfm_check.proofs.chain.first_wrong_slope.Given as goal
 
 -- the slopes before are right
 abbrev pub invariant-loop-k : goal.invariant-loop-k
-invariant-loop-k l = (j : ℕ) → j < l.k → IsNextSlope (meant l.offer) (elements l.offer) l.offer.sizes.now
-    (set_before (empty_set (elements l.offer)) (map mark_of (said l.offer).breaks) j) (mark_at (map mark_of (said l.offer).breaks) j)
+invariant-loop-k l = (j : ℕ) → j < l.k
+    → IsNextSlope (meant l.offer) (elements l.offer) l.offer.sizes.now
+    (set_before (empty_set (elements l.offer)) (map mark_of (said l.offer).breaks) j)
+    (mark_at (map mark_of (said l.offer).breaks) j)

@@ -5,4 +5,5 @@ use Rattle.sfm_check.proofs.head.first_unlike.Given as goal
 
 -- the blocks before are the due ones
 abbrev pub invariant-loop-i : goal.invariant-loop-i
-invariant-loop-i l = (l.i ≤ length l.given) × ((j : ℕ) → j < l.i → block_at (map block_of l.given) j ≡ block_at (map block_of l.due) j)
+invariant-loop-i l = (l.i ≤ length l.given)
+    × ((j : ℕ) → j < l.i → block_at (map block_of l.given) j ≡ block_at (map block_of l.due) j)

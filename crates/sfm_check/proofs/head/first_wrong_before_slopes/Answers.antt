@@ -25,16 +25,21 @@ use Rattle.sfm_check.proofs.head.first_wrong_before_slopes.Goals as goal
 use Rattle.sfm_check.proofs.head.first_wrong_before_slopes.Goals.{After-deref}
 
 -- what says the same as what is due is true
-same_true : (terms : List Meaning) (n : ℕ) (sizes : List ℤ) (a t : Answer) → IsTrueHead terms n sizes t → SaysTheSame a t → IsTrueMinimum terms n sizes a
+same_true : (terms : List Meaning) (n : ℕ) (sizes : List ℤ) (a t : Answer)
+    → IsTrueHead terms n sizes t → SaysTheSame a t → IsTrueMinimum terms n sizes a
 same_true terms n sizes a t h s = record {
   least = subst (IsLeast terms n (pos 1) (sized_shift sizes (pos 0))) (sym s.least) h.least;
-  greatest = subst (IsGreatest terms n (pos 1) (sized_shift sizes (pos 0))) (sym s.greatest) h.greatest;
-  value = s.value ∙ (h.value ∙ ap (shifted_at terms (pos 1) (sized_shift sizes (pos 0))) (sym s.least));
+  greatest = subst (IsGreatest terms n (pos 1) (sized_shift sizes (pos 0))) (sym s.greatest)
+      h.greatest;
+  value = s.value ∙ (h.value ∙ ap (shifted_at terms (pos 1) (sized_shift sizes (pos 0)))
+      (sym s.least));
   blocks = subst (AreBlocks terms n (pos 1) (sized_shift sizes (pos 0))) (sym s.blocks) h.blocks;
 }
 
 -- what is due, by what the bases at 0/1 tell and by all breakpoints
-true_due : (terms : List Meaning) (n : ℕ) (sizes : List ℤ) (a : Answer) (p : Proved) (due : List Block) (marks : List Mark) → IsToldOf terms n sizes (section_at a 0) p → AreBlocks terms n (pos 1) (sized_shift sizes (pos 0)) (map block_of due)
+true_due : (terms : List Meaning) (n : ℕ) (sizes : List ℤ) (a : Answer) (p : Proved)
+    (due : List Block) (marks : List Mark) → IsToldOf terms n sizes (section_at a 0) p
+    → AreBlocks terms n (pos 1) (sized_shift sizes (pos 0)) (map block_of due)
     → AreBreakpoints terms n sizes marks → IsTrueHead terms n sizes (due_answer p due marks)
 true_due terms n sizes a p due marks told are slopes = record {
   least = told.least;
@@ -45,8 +50,11 @@ true_due terms n sizes a p due marks told are slopes = record {
 }
 
 -- what is told of an answer, against one that is true
-judged : (form : Form) (terms : List Meaning) (sizes : List ℤ) (a t : Answer) (r : Option ℕ) → IsTrueHead terms (length form.names) sizes t → MatchOption r (SaysTheSame a t) (IsWrongLine form a t)
-    → MatchOption r (IsTrueMinimum terms (length form.names) sizes a) (IsFirstWrong form terms sizes a)
+judged : (form : Form) (terms : List Meaning) (sizes : List ℤ) (a t : Answer) (r : Option ℕ)
+    → IsTrueHead terms (length form.names) sizes t
+    → MatchOption r (SaysTheSame a t) (IsWrongLine form a t)
+    → MatchOption r (IsTrueMinimum terms (length form.names) sizes a)
+    (IsFirstWrong form terms sizes a)
 judged form terms sizes a t None h s = same_true terms (length form.names) sizes a t h s
 judged form terms sizes a t (Some line) h w = found_wrong form terms sizes a t line h w
 
@@ -59,7 +67,8 @@ blocks-requires-clause-prove c =
     let n = elements c.args.offer.now in
     let rows = c.args.offer.now.solved.now.bases in
     let p : Prove ms n (pos 1) (even_shift n (pos 0)) rows = subst (λ z. Prove ms n (pos 1) z rows)
-    (zero_shift n c.args.offer.now.sizes.now c.requires.offer.sizes) c.requires.told.proved.proves in
+    (zero_shift n c.args.offer.now.sizes.now c.requires.offer.sizes)
+    c.requires.told.proved.proves in
     rw (c.terms.ensures.terms, c.names_len.ensures.len) p
 
 -- the blocks that the bases tell are those at the shift by sizes
@@ -79,7 +88,8 @@ pub first_wrong_line-requires-clause-value : goal.first_wrong_line-requires-clau
 first_wrong_line-requires-clause-value c =
     let told = c.requires.told in
     subst IsEntry (sym told.value) (value_small (elements c.args.offer.now)
-    c.args.offer.now.sizes.now c.args.offer.now.instance.now.terms c.args.found.now.least c.terms.ensures.bounded
+    c.args.offer.now.sizes.now c.args.offer.now.instance.now.terms c.args.found.now.least
+    c.terms.ensures.bounded
     told.least.minimiser.allowed)
 
 pub first_wrong_line-requires-clause-blocks : goal.first_wrong_line-requires-clause-blocks
@@ -90,7 +100,8 @@ first_wrong_line-requires-clause-blocks c =
     let are = are_due (goal.at.first_wrong_line-requires-clause-blocks c).After-deref in
     let shown = ap length c.deref.ensures.value in
     λ i l. rw c.deref.ensures.value
-    (blocks_formed ms n (pos 1) (sized_shift c.args.offer.now.sizes.now (pos 0)) (map block_of due) are i
+    (blocks_formed ms n (pos 1) (sized_shift c.args.offer.now.sizes.now (pos 0)) (map block_of due)
+    are i
     (omega (arith, l, shown, length-map due block_of)))
 
 pub returns : goal.returns
@@ -106,6 +117,7 @@ returns c = λ header.
     let truth = due_answer c.args.found.now due marks in
     let is_true = true_due ms n sizes a c.args.found.now due marks c.requires.told
     (are_due (goal.at.returns c).After-deref) slopes in
-    let told : MatchOption c.first_wrong_line.result (SaysTheSame a truth) (IsWrongLine form a truth) =
+    let told : MatchOption c.first_wrong_line.result (SaysTheSame a truth)
+    (IsWrongLine form a truth) =
     (let w = c.first_wrong_line.ensures header marks in rw c.deref.ensures.value at w) in
     judged form ms sizes a truth c.first_wrong_line.result is_true told

@@ -12,7 +12,8 @@ use Rattle.sfm_check.proofs.Telling.{few_by_text, found_verdict}
 use Rattle.sfm_check.proofs.judging.judge_with.Goals as goal
 
 -- what follows from each good answer of a call
-if_ok : {X E : Type 0} (r : Result X E) (P Q : X → Type 0) → ((x : X) → P x → Q x) → IfOk r P → IfOk r Q
+if_ok : {X E : Type 0} (r : Result X E) (P Q : X → Type 0) → ((x : X) → P x → Q x) → IfOk r P
+    → IfOk r Q
 if_ok (Ok x) P Q f h = f x h
 if_ok (Err e) P Q f h = tt
 
@@ -47,7 +48,8 @@ returns-in-Ok-clause-short c =
     c.judge_solved.ensures
 
 -- a text that is too long is not right
-pub returns-then-text-gt-ANSWER_LIMIT-clause-verdict : goal.returns-then-text-gt-ANSWER_LIMIT-clause-verdict
+pub returns-then-text-gt-ANSWER_LIMIT-clause-verdict
+    : goal.returns-then-text-gt-ANSWER_LIMIT-clause-verdict
 returns-then-text-gt-ANSWER_LIMIT-clause-verdict c = (
   (λ r.
       let kept = c.tell_kept.ensures in

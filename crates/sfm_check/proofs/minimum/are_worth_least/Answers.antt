@@ -27,8 +27,10 @@ returns-then-low-least c = λ yes.
     let ms = meant c.args.offer.now in
     let low = c.in-Some.low in
     let high = c.in-Some-2.high in
-    let low_is : IsWorth ms c.args.offer.now.sizes.now c.args.offer.now.solved.now.least low = rw c.in-Some.is at c.in_ok-low.ensures.worth in
-    let high_is : IsWorth ms c.args.offer.now.sizes.now c.args.offer.now.solved.now.greatest high = rw c.in-Some-2.is at c.in_ok-high.ensures.worth in
+    let low_is : IsWorth ms c.args.offer.now.sizes.now c.args.offer.now.solved.now.least
+    low = rw c.in-Some.is at c.in_ok-low.ensures.worth in
+    let high_is : IsWorth ms c.args.offer.now.sizes.now c.args.offer.now.solved.now.greatest
+    high = rw c.in-Some-2.is at c.in_ok-high.ensures.worth in
     let low_small : IsSmall low = rw c.in-Some.is at c.in_ok-low.ensures.small in
     let high_small : IsSmall high = rw c.in-Some-2.is at c.in_ok-high.ensures.small in
     let entry = c.requires.offer.formed.value in

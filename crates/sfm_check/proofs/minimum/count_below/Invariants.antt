@@ -6,4 +6,5 @@ use Rattle.sfm_cert.specs.Solved.{break_of}
 use Rattle.sfm_check.proofs.minimum.count_below.Given as goal
 
 abbrev pub invariant-loop-k : goal.invariant-loop-k
-invariant-loop-k l = (j : ℕ) → suc j ≡ l.k → (mark_at (map mark_of (map break_of l.breaks)) j).num <ℤ l.limit
+invariant-loop-k l = (j : ℕ) → suc j ≡ l.k
+    → (mark_at (map mark_of (map break_of l.breaks)) j).num <ℤ l.limit

@@ -29,13 +29,16 @@ all_right o bounded offer slopes found = (
   proved (suc s) l = slopes.proved (suc s) (λ e. omega (arith, e)) l
 
 pub is_minimum_right-requires-clause-chain : goal.is_minimum_right-requires-clause-chain
-is_minimum_right-requires-clause-chain c = (c.in_ok-are_slopes_right.ensures c.if-not-branch.false).chain
+is_minimum_right-requires-clause-chain c =
+    (c.in_ok-are_slopes_right.ensures c.if-not-branch.false).chain
 
 pub returns : goal.returns
 returns c =
     let o = c.args.offer.now in
-    let slopes : of_offer AreRightSlopes o = c.in_ok-are_slopes_right.ensures c.if-not-branch.false in
-    IfOk-weaker c.is_minimum_right.result _ (λ r. IsTrue r → of_offer IsTrueHead o × of_offer AllAreProved o)
+    let slopes : of_offer AreRightSlopes o = c.in_ok-are_slopes_right.ensures
+    c.if-not-branch.false in
+    IfOk-weaker c.is_minimum_right.result _
+    (λ r. IsTrue r → of_offer IsTrueHead o × of_offer AllAreProved o)
     (λ r (found : IsTrue r → of_offer IsTrueMinimum o × of_section IsProvedSection o 0) yes.
     all_right o c.tell_kept.ensures.bounded c.requires.offer slopes (found yes))
     c.is_minimum_right.ensures

@@ -26,11 +26,13 @@ shift_by-requires-clause-small c =
 -- the denominator fits its type
 fits_den : (c : After-section_of-section) → FitsSigned w128 c.section_of-section.result.den
 fits_den c =
-    let factor = (formed_parts c.requires.offer.formed c.requires.at c.section_of-section.ensures).factor in
+    let factor = (formed_parts c.requires.offer.formed c.requires.at
+    c.section_of-section.ensures).factor in
     omega (arith, ints, factor)
 
 -- the shift is p for each unit of size
-shift : (c : After-deref) → c.deref.result.now ≡ sized_shift c.args.offer.now.sizes.now c.section_of-section.result.num
+shift : (c : After-deref) → c.deref.result.now ≡ sized_shift c.args.offer.now.sizes.now
+    c.section_of-section.result.num
 shift c =
     let f = formed_parts c.requires.offer.formed c.requires.at c.section_of-section.ensures in
     let entry = f.entry in
@@ -40,7 +42,8 @@ shift c =
 pub certify_at-requires-clause-each : goal.certify_at-requires-clause-each
 certify_at-requires-clause-each c =
     let is = shift (goal.at.certify_at-requires-clause-each c).After-deref in
-    ap length is ∙ (length-map c.args.offer.now.sizes.now _ ∙ (c.requires.offer.sizes.places ∙ sym c.names_len.ensures.len))
+    ap length is ∙ (length-map c.args.offer.now.sizes.now _
+    ∙ (c.requires.offer.sizes.places ∙ sym c.names_len.ensures.len))
 
 pub certify_at-requires-clause-shifts : goal.certify_at-requires-clause-shifts
 certify_at-requires-clause-shifts c =
@@ -57,7 +60,8 @@ certify_at-requires-clause-small c =
 pub certify_at-requires-clause-bases : goal.certify_at-requires-clause-bases
 certify_at-requires-clause-bases c =
     let fd = fits_den (goal.at.certify_at-requires-clause-bases c).After-section_of-section in
-    rw c.terms.ensures.terms (simp to_z-of_z (part_bases c.args.offer.now.instance.now c.requires.offer.formed
+    rw c.terms.ensures.terms (simp to_z-of_z
+    (part_bases c.args.offer.now.instance.now c.requires.offer.formed
     c.requires.bases c.requires.at c.section_of-section.ensures))
 
 pub returns : goal.returns
@@ -65,7 +69,8 @@ returns c = λ p.
     let fd = fits_den (goal.at.returns c).After-section_of-section in
     let is = shift (goal.at.returns c).After-deref in
     let found = c.in_ok-found.ensures.exact in
-    let raw = rw (c.in-NotOptimal.is, c.terms.ensures.terms, c.names_len.ensures.len, is) at found in
+    let raw = rw (c.in-NotOptimal.is, c.terms.ensures.terms, c.names_len.ensures.len, is) at
+    found in
     let never = simp to_z-of_z at raw.1 in
     let parts = c.section_of-section.ensures in
     never (rw (parts.num_is, parts.den_is, parts.rows_are) at p.proves)
@@ -80,7 +85,8 @@ returns-in-Proved c =
     let rows = c.section_of-section.result.bases.now in
     let fd = fits_den (goal.at.returns-in-Proved c).After-section_of-section in
     let is = shift (goal.at.returns-in-Proved c).After-deref in
-    let bases = part_bases c.args.offer.now.instance.now c.requires.offer.formed c.requires.bases c.requires.at
+    let bases = part_bases c.args.offer.now.instance.now c.requires.offer.formed c.requires.bases
+    c.requires.at
     c.section_of-section.ensures in
     let exact = rw (c.in-Proved.is, c.terms.ensures.terms, c.names_len.ensures.len, is)
     at c.in_ok-found.ensures.exact in
@@ -104,4 +110,5 @@ returns-in-Proved c =
 pub certify_at-requires-clause-factor : goal.certify_at-requires-clause-factor
 certify_at-requires-clause-factor c =
     let fd = fits_den (goal.at.certify_at-requires-clause-factor c).After-section_of-section in
-    simp to_z-of_z (formed_parts c.requires.offer.formed c.requires.at c.section_of-section.ensures).factor
+    simp to_z-of_z (formed_parts c.requires.offer.formed c.requires.at
+    c.section_of-section.ensures).factor

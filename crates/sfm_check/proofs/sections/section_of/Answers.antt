@@ -18,8 +18,21 @@ returns c =
     let fn : FitsSigned w128 found.slope.num = omega (arith, ints, low) in
     let fd : FitsSigned w128 found.slope.den = omega (arith, ints, factor) in
     let ne = c.if-s-eq0.false in
-    let lk : c.args.s - 1 < length items = omega (arith, c.requires, ne, length-map (map break_of items) section_from, length-map items break_of) in
-    let e : break_of found ≡ get_or (map break_of items) (c.args.s - 1) (break_of found) = ap break_of c.index-found.ensures ∙ sym (get_or-map break_of items (c.args.s - 1) found (break_of found) lk) in
-    let is : section_at (answer_of c.args.solved.now) c.args.s ≡ section_from (break_of found) = section_break (answer_of c.args.solved.now) c.args.s (break_of found) ne c.requires e in
-    let goal' : IsSection (section_at (answer_of c.args.solved.now) c.args.s) found.slope.num found.slope.den found.bases = rw is (record { num_is = refl; den_is = refl; rows_are = refl }) in
+    let lk : c.args.s - 1 < length
+    items = omega (
+      arith,
+      c.requires,
+      ne,
+      length-map (map break_of items) section_from,
+      length-map items break_of,
+    ) in
+    let e : break_of found ≡ get_or (map break_of items) (c.args.s - 1)
+    (break_of found) = ap break_of c.index-found.ensures
+    ∙ sym (get_or-map break_of items (c.args.s - 1) found (break_of found) lk) in
+    let is : section_at (answer_of c.args.solved.now) c.args.s ≡ section_from
+    (break_of found) = section_break (answer_of c.args.solved.now) c.args.s (break_of found) ne
+    c.requires e in
+    let goal' : IsSection (section_at (answer_of c.args.solved.now) c.args.s) found.slope.num
+    found.slope.den found.bases =
+    rw is (record { num_is = refl; den_is = refl; rows_are = refl }) in
     simp to_z-of_z goal'

@@ -8,6 +8,7 @@ use Rattle.sfm_check.specs.Offers.{elements, meant, of_offer, said}
 use Rattle.sfm_check.proofs.values.are_slopes_right.Given as goal
 
 abbrev pub invariant-loop-k : goal.invariant-loop-k
-invariant-loop-k l = IsWorth (meant l.offer) l.offer.sizes.now (set_before (empty_set (elements l.offer)) (map mark_of (said l.offer).breaks) l.k) l.before
+invariant-loop-k l = IsWorth (meant l.offer) l.offer.sizes.now
+    (set_before (empty_set (elements l.offer)) (map mark_of (said l.offer).breaks) l.k) l.before
     × IsSmall l.before
     × ((j : ℕ) → j < l.k → of_offer IsStepAt l.offer j)

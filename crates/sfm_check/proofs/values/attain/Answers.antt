@@ -14,5 +14,8 @@ returns-then-value_at-least c = λ yes.
     let fb : FitsSigned w128 c.value_at-then-value_at-least.result = search rules in
     let least = simp to_z-of_z at c.in_ok-least.ensures in
     let one = simp to_z-of_z at (ap (to_z w128) c.if-value_at-least.true) in
-    let two = simp to_z-of_z at (ap (to_z w128) (eqb-true _ _ yes)) in
-    (sym c.value_at.ensures ∙ (one ∙ least), sym c.value_at-then-value_at-least.ensures ∙ (two ∙ least))
+    let two = simp to_z-of_z at (ap (to_z w128) (eqb-true _ _ yes)) in (
+      sym c.value_at.ensures ∙ (one ∙ least),
+      sym c.value_at-then-value_at-least.ensures
+          ∙ (two ∙ least),
+    )

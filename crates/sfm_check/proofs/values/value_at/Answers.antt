@@ -6,18 +6,24 @@ use Rattle.sfm_spec.proofs.Scaled.{times-comm, times-mono, times-neg}
 use Rattle.sfm_check.proofs.values.value_at.Goals as goal
 
 -- a product of a factor of at most k and of a number of at most m
-product_bound : (k m : ℕ) (q a : ℤ) → pos 0 ≤ℤ q → q ≤ℤ pos k → IsAtMost m a → (neg_ℤ (pos m *ℤ pos k) ≤ℤ (q *ℤ a)) × ((q *ℤ a) ≤ℤ (pos m *ℤ pos k))
+product_bound : (k m : ℕ) (q a : ℤ) → pos 0 ≤ℤ q → q ≤ℤ pos k → IsAtMost m a
+    → (neg_ℤ (pos m *ℤ pos k) ≤ℤ (q *ℤ a)) × ((q *ℤ a) ≤ℤ (pos m *ℤ pos k))
 product_bound k m q a low high h =
     let up = times-mono q a (pos m) low h.high in
     let down = times-mono q (neg_ℤ (pos m)) a low h.low in
     let turned = times-neg q (pos m) in
     let wide = times-mono (pos m) q (pos k) (omega (arith, ints)) high in
-    let same = times-comm q (pos m) in
-    (omega (arith, ints, up, down, turned, wide, same), omega (arith, ints, up, down, turned, wide, same))
+    let same = times-comm q (pos m) in (
+      omega (arith, ints, up, down, turned, wide, same),
+      omega (arith, ints, up, down, turned, wide, same),
+    )
 
 -- the words of a value, and what is computed of them
-are_small : (den num sum weight : ℤ) → IsFactor den → IsEntry num → IsGiven sum → (pos 0 ≤ℤ weight) × (weight ≤ℤ pos (10 ^ 6))
-    → FitsSigned w128 den × FitsSigned w128 num × FitsSigned w128 sum × FitsSigned w128 weight × FitsSigned w128 (den *ℤ sum) × FitsSigned w128 (num *ℤ weight) × FitsSigned w128 (den *ℤ sum -ℤ num *ℤ weight)
+are_small : (den num sum weight : ℤ) → IsFactor den → IsEntry num → IsGiven sum → (pos 0 ≤ℤ weight)
+    × (weight ≤ℤ pos (10 ^ 6))
+    → FitsSigned w128 den × FitsSigned w128 num × FitsSigned w128 sum × FitsSigned w128 weight
+    × FitsSigned w128 (den *ℤ sum) × FitsSigned w128 (num *ℤ weight)
+    × FitsSigned w128 (den *ℤ sum -ℤ num *ℤ weight)
 are_small den num sum weight factor entry given few =
     let low = factor.low in
     let a = product_bound (10 ^ 6) (10 ^ 18) den sum (omega (arith, ints, low)) factor.high given in
@@ -37,17 +43,25 @@ are_small den num sum weight factor entry given few =
     )
 
 pub overflow_mul-values : goal.overflow_mul-values
-overflow_mul-values c = let (fd, fn, fs, fw, first, second, both) = are_small c.args.slope.now.den c.args.slope.now.num c.args.worth.now.sum c.args.worth.now.weight c.args.slope.now.factor c.args.slope.now.entry c.requires.sum c.requires.weight in simp to_z-of_z first
+overflow_mul-values c = let (fd, fn, fs, fw, first, second, both) = are_small c.args.slope.now.den
+    c.args.slope.now.num c.args.worth.now.sum c.args.worth.now.weight c.args.slope.now.factor
+    c.args.slope.now.entry c.requires.sum c.requires.weight in simp to_z-of_z first
 
 pub overflow_mul-shift : goal.overflow_mul-shift
-overflow_mul-shift c = let (fd, fn, fs, fw, first, second, both) = are_small c.args.slope.now.den c.args.slope.now.num c.args.worth.now.sum c.args.worth.now.weight c.args.slope.now.factor c.args.slope.now.entry c.requires.sum c.requires.weight in simp to_z-of_z second
+overflow_mul-shift c = let (fd, fn, fs, fw, first, second, both) = are_small c.args.slope.now.den
+    c.args.slope.now.num c.args.worth.now.sum c.args.worth.now.weight c.args.slope.now.factor
+    c.args.slope.now.entry c.requires.sum c.requires.weight in simp to_z-of_z second
 
 pub overflow_sub-result : goal.overflow_sub-result
 overflow_sub-result c =
-    let (fd, fn, fs, fw, first, second, both) = are_small c.args.slope.now.den c.args.slope.now.num c.args.worth.now.sum c.args.worth.now.weight c.args.slope.now.factor c.args.slope.now.entry c.requires.sum c.requires.weight in
+    let (fd, fn, fs, fw, first, second, both) = are_small c.args.slope.now.den c.args.slope.now.num
+    c.args.worth.now.sum c.args.worth.now.weight c.args.slope.now.factor c.args.slope.now.entry
+    c.requires.sum c.requires.weight in
     simp to_z-of_z both
 
 pub returns : goal.returns
 returns c =
-    let (fd, fn, fs, fw, first, second, both) = are_small c.args.slope.now.den c.args.slope.now.num c.args.worth.now.sum c.args.worth.now.weight c.args.slope.now.factor c.args.slope.now.entry c.requires.sum c.requires.weight in
+    let (fd, fn, fs, fw, first, second, both) = are_small c.args.slope.now.den c.args.slope.now.num
+    c.args.worth.now.sum c.args.worth.now.weight c.args.slope.now.factor c.args.slope.now.entry
+    c.requires.sum c.requires.weight in
     simp to_z-of_z refl

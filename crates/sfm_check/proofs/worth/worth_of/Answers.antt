@@ -15,7 +15,10 @@ returns-in-Some-clause-small c =
     let m = c.terms.ensures.bounded.small in
     let few = c.terms.ensures.bounded.few in
     let e = told.1 in
-    let given : IsGiven c.in-Some.sum = record { low = omega (arith, ints, r.0, r.1, m, e); high = omega (arith, ints, r.0, r.1, m, e) } in
+    let given : IsGiven c.in-Some.sum = record {
+      low = omega (arith, ints, r.0, r.1, m, e);
+      high = omega (arith, ints, r.0, r.1, m, e);
+    } in
     let fits : FitsSigned w128 c.in-Some.sum = omega (arith, ints, given.low, given.high) in
     let low = size_below_length s in
     let size : c.size.result ≤ 256 = omega (arith, low, few, c.size.ensures, c.requires.places) in

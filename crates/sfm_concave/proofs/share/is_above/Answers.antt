@@ -12,5 +12,6 @@ returns c =
     let r = c.requires in
     let x = c.args.x.now in
     let fb : FitsSigned w128 c.args.bar = c.ranges.bar in
-    let fa : FitsSigned w128 (get_or x c.args.v (pos 0)) = entry_fits _ (All-get_or IsEntry x c.args.v (pos 0) r.place r.small) in
+    let fa : FitsSigned w128 (get_or x c.args.v (pos 0)) = entry_fits _
+    (All-get_or IsEntry x c.args.v (pos 0) r.place r.small) in
     simp to_z-of_z (sym (get_or-above c.args.bar x c.args.v r.place))

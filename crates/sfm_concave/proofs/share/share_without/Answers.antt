@@ -16,4 +16,5 @@ pub returns : goal.returns
 returns c =
     let x = c.args.x.now in
     let fs : FitsSigned w128 c.sum_of.result = record { sfits = c.sum_of.type_inv } in
-    c.take_out.ensures (whole_set (length x)) (simp to_z-of_z (rw c.sum_of.ensures (whole_share x))) (Has-whole (length x) c.args.v c.requires.onto)
+    c.take_out.ensures (whole_set (length x)) (simp to_z-of_z (rw c.sum_of.ensures (whole_share x)))
+    (Has-whole (length x) c.args.v c.requires.onto)

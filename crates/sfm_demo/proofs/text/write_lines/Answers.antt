@@ -5,4 +5,5 @@ pub loop-i-init : goal.loop-i-init
 loop-i-init c = lines_none c.args.kind c.args.draws.now _
 
 pub loop-i-preserved : goal.loop-i-preserved
-loop-i-preserved c = lines_more c.args.kind c.loop-i._i _ _ _ _ _ _ _ c.loop-i.invariant c.in_ok-write_line.ensures c.in_ok-writeln.ensures.bytes
+loop-i-preserved c = lines_more c.args.kind c.loop-i._i _ _ _ _ _ _ _ c.loop-i.invariant
+    c.in_ok-write_line.ensures c.in_ok-writeln.ensures.bytes

@@ -7,4 +7,5 @@ pub loop-j-init : goal.loop-j-init
 loop-j-init c = each_none (item_of c.args.item) c.args.p c.args.step c.args.draws.now _
 
 pub loop-j-preserved : goal.loop-j-preserved
-loop-j-preserved c = each_more (item_of c.args.item) c.args.p c.args.step c.loop-j.j _ _ _ _ _ _ _ refl c.loop-j.invariant c.in_ok-write_item.ensures
+loop-j-preserved c = each_more (item_of c.args.item) c.args.p c.args.step c.loop-j.j _ _ _ _ _ _ _
+    refl c.loop-j.invariant c.in_ok-write_item.ensures

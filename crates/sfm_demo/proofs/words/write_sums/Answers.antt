@@ -6,8 +6,12 @@ use Rattle.sfm_demo.proofs.words.write_sums.Goals as goal
 
 pub loop-i-preserved : goal.loop-i-preserved
 loop-i-preserved c = record {
-  text = falling_more _ _ _ _ _ _ (c.args.count - c.loop-i._i) (c.args.count - (c.loop-i._i + 1)) _ _ (omega arith) (omega (arith, ints)) (omega (arith, ints)) c.draw.ensures.after c.in_ok-write.ensures.bytes ∙ c.loop-i.invariant.text;
-  state = falling_after_more _ _ _ _ (c.args.count - c.loop-i._i) (c.args.count - (c.loop-i._i + 1)) _ _ (omega arith) (omega (arith, ints)) (omega (arith, ints)) c.draw.ensures.after ∙ c.loop-i.invariant.state;
+  text = falling_more _ _ _ _ _ _ (c.args.count - c.loop-i._i) (c.args.count - (c.loop-i._i + 1)) _
+      _ (omega arith) (omega (arith, ints)) (omega (arith, ints)) c.draw.ensures.after
+      c.in_ok-write.ensures.bytes ∙ c.loop-i.invariant.text;
+  state = falling_after_more _ _ _ _ (c.args.count - c.loop-i._i) (c.args.count - (c.loop-i._i + 1))
+      _ _ (omega arith) (omega (arith, ints)) (omega (arith, ints)) c.draw.ensures.after
+      ∙ c.loop-i.invariant.state;
   increment_low = omega (arith, ints);
   increment_high = omega (arith, ints);
   sum_low = omega (arith, ints);
@@ -19,6 +23,8 @@ returns c =
     let f : FitsSigned w64 c.args.first = omega (arith, ints) in
     let none : c.args.count - c.loop-i._i ≡ 0 = omega arith in
     record {
-      text = falling_all _ _ _ _ (c.args.count - c.loop-i._i) _ none (simp to_z-of_z at c.loop-i.invariant.text);
-      after = falling_after_all _ _ (c.args.count - c.loop-i._i) _ _ none (simp to_z-of_z at c.loop-i.invariant.state);
+      text = falling_all _ _ _ _ (c.args.count - c.loop-i._i) _ none
+          (simp to_z-of_z at c.loop-i.invariant.text);
+      after = falling_after_all _ _ (c.args.count - c.loop-i._i) _ _ none
+          (simp to_z-of_z at c.loop-i.invariant.state);
     }

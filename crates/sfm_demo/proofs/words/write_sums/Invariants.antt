@@ -6,8 +6,10 @@ use Rattle.sfm_demo.proofs.words.write_sums.Given as goal
 abbrev pub invariant-loop-i : goal.invariant-loop-i
 invariant-loop-i l = record {
   text : string_bytes l.out ++ (falling (l.count - l._i) l.sum l.increment l.draws).value
-      ≡ string_bytes l.initial.out ++ (falling l.count l.initial.sum l.initial.increment l.initial.draws).value;
-  state : (falling (l.count - l._i) l.sum l.increment l.draws).state ≡ (falling l.count l.initial.sum l.initial.increment l.initial.draws).state;
+      ≡ string_bytes l.initial.out ++ (falling l.count l.initial.sum l.initial.increment
+      l.initial.draws).value;
+  state : (falling (l.count - l._i) l.sum l.increment l.draws).state
+      ≡ (falling l.count l.initial.sum l.initial.increment l.initial.draws).state;
   increment_low : neg_ℤ (pos (150 * l._i)) ≤ℤ l.increment;
   increment_high : l.increment ≤ℤ pos 600;
   sum_low : neg_ℤ (pos (1500 * l._i)) ≤ℤ l.sum;

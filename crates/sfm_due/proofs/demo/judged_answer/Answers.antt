@@ -11,10 +11,17 @@ pub unreachable-requires : goal.unreachable-requires
 unreachable-requires c =
     let instance = c.args.instance.now in
     let sizes = ones (length instance.names) in
-    let h : IsTrueAnswer instance sizes (answer_of c.in_ok-solved.solved) = rw (c.deref.ensures.value, c.in_ok-sizes.ensures.ones) at c.in_ok-solved.ensures in
-    let right : IsRightFile (form_of instance) (meanings_of instance.terms) sizes c.as_slice.result.now = record {
+    let h : IsTrueAnswer instance sizes
+    (answer_of c.in_ok-solved.solved) =
+    rw (c.deref.ensures.value, c.in_ok-sizes.ensures.ones) at c.in_ok-solved.ensures in
+    let right : IsRightFile (form_of instance) (meanings_of instance.terms) sizes
+    c.as_slice.result.now = record {
       answer = answer_of c.in_ok-solved.solved;
-      is_text = record { formed = h.formed; written = c.as_slice.ensures.value ∙ c.in_ok-file.ensures };
+      is_text = record {
+        formed = h.formed;
+        written = c.as_slice.ensures.value
+            ∙ c.in_ok-file.ensures;
+      };
       head = h.head;
       sections = h.sections;
     } in

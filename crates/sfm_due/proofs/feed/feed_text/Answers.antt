@@ -7,4 +7,5 @@ pub returns-in-Err-clause-read : goal.returns-in-Err-clause-read
 returns-in-Err-clause-read g c = inl (refl, fails_to_open _ _ _ _ c.in-Err.ensures)
 
 pub returns-in-Ok-clause-read : goal.returns-in-Ok-clause-read
-returns-in-Ok-clause-read g c = feeds-text _ _ _ _ _ c.feed_open.result c.in-Ok.ensures c.feed_open.ensures.read
+returns-in-Ok-clause-read g c = feeds-text _ _ _ _ _ c.feed_open.result c.in-Ok.ensures
+    c.feed_open.ensures.read

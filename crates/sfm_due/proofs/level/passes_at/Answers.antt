@@ -12,34 +12,107 @@ loop-i-init c = record { so_far = refl; small = omega (arith, ints) }
 
 pub overflow_add-total : goal.overflow_add-total
 overflow_add-total c =
-    let t = turn c.args.terms.now c.loop-i.i c.index-terms-i.result c.index-terms-i.is c.loop-i-test.true c.requires.small in
+    let t = turn c.args.terms.now c.loop-i.i c.index-terms-i.result c.index-terms-i.is
+    c.loop-i-test.true c.requires.small in
     let inv = c.loop-i.invariant in
-    let fs : FitsSigned w128 c.size-total.result = omega (arith, ints, t.next, t.low, t.more, t.high, c.size-total.ensures) in
-    simp to_z-of_z (omega (arith, ints, t.next, t.low, t.more, t.high, c.size-total.ensures, inv.so_far, c.loop-i.total-is))
+    let fs : FitsSigned w128 c.size-total.result = omega (
+      arith,
+      ints,
+      t.next,
+      t.low,
+      t.more,
+      t.high,
+      c.size-total.ensures,
+    ) in
+    simp to_z-of_z (omega (
+      arith,
+      ints,
+      t.next,
+      t.low,
+      t.more,
+      t.high,
+      c.size-total.ensures,
+      inv.so_far,
+      c.loop-i.total-is,
+    ))
 
 pub returns-then-total-gt-LEVEL_LIMIT : goal.returns-then-total-gt-LEVEL_LIMIT
 returns-then-total-gt-LEVEL_LIMIT c =
-    let t = turn c.args.terms.now c.loop-i.i c.index-terms-i.result c.index-terms-i.is c.loop-i-test.true c.requires.small in
+    let t = turn c.args.terms.now c.loop-i.i c.index-terms-i.result c.index-terms-i.is
+    c.loop-i-test.true c.requires.small in
     let inv = c.loop-i.invariant in
-    let fs : FitsSigned w128 c.size-total.result = omega (arith, ints, t.next, t.low, t.more, t.high, c.size-total.ensures) in
-    let sum : FitsSigned w128 (to_z w128 c.loop-i.total-bits +ℤ c.size-total.result) = omega (arith, ints, t.next, t.low, t.more, t.high, c.size-total.ensures, inv.so_far, c.loop-i.total-is) in
+    let fs : FitsSigned w128 c.size-total.result = omega (
+      arith,
+      ints,
+      t.next,
+      t.low,
+      t.more,
+      t.high,
+      c.size-total.ensures,
+    ) in
+    let sum : FitsSigned w128 (to_z w128 c.loop-i.total-bits +ℤ c.size-total.result) = omega (
+      arith,
+      ints,
+      t.next,
+      t.low,
+      t.more,
+      t.high,
+      c.size-total.ensures,
+      inv.so_far,
+      c.loop-i.total-is,
+    ) in
     let above = simp to_z-of_z at c.if-total-gt-LEVEL_LIMIT.true in
     record {
       i = c.loop-i.i;
-      line_is = slice_get-get_or c.args.lines.now c.loop-i.i 0 (rw c.requires.counted c.loop-i-test.true);
+      line_is = slice_get-get_or c.args.lines.now c.loop-i.i 0
+          (rw c.requires.counted c.loop-i-test.true);
       before = omega (arith, ints, inv.so_far, inv.small);
-      more = omega (arith, ints, above, t.next, c.size-total.ensures, inv.so_far, c.loop-i.total-is);
+      more = omega (
+        arith,
+        ints,
+        above,
+        t.next,
+        c.size-total.ensures,
+        inv.so_far,
+        c.loop-i.total-is,
+      );
     }
 
 pub loop-i-preserved : goal.loop-i-preserved
 loop-i-preserved c =
-    let t = turn c.args.terms.now c.loop-i.i c.index-terms-i.result c.index-terms-i.is c.loop-i-test.true c.requires.small in
+    let t = turn c.args.terms.now c.loop-i.i c.index-terms-i.result c.index-terms-i.is
+    c.loop-i-test.true c.requires.small in
     let inv = c.loop-i.invariant in
-    let fs : FitsSigned w128 c.size-total.result = omega (arith, ints, t.next, t.low, t.more, t.high, c.size-total.ensures) in
-    let sum : FitsSigned w128 (to_z w128 c.loop-i.total-bits +ℤ c.size-total.result) = omega (arith, ints, t.next, t.low, t.more, t.high, c.size-total.ensures, inv.so_far, c.loop-i.total-is) in
+    let fs : FitsSigned w128 c.size-total.result = omega (
+      arith,
+      ints,
+      t.next,
+      t.low,
+      t.more,
+      t.high,
+      c.size-total.ensures,
+    ) in
+    let sum : FitsSigned w128 (to_z w128 c.loop-i.total-bits +ℤ c.size-total.result) = omega (
+      arith,
+      ints,
+      t.next,
+      t.low,
+      t.more,
+      t.high,
+      c.size-total.ensures,
+      inv.so_far,
+      c.loop-i.total-is,
+    ) in
     let below = simp to_z-of_z at c.if-total-gt-LEVEL_LIMIT.false in
     record {
-      so_far = simp to_z-of_z (omega (arith, ints, t.next, c.size-total.ensures, inv.so_far, c.loop-i.total-is));
+      so_far = simp to_z-of_z (omega (
+        arith,
+        ints,
+        t.next,
+        c.size-total.ensures,
+        inv.so_far,
+        c.loop-i.total-is,
+      ));
       small = simp to_z-of_z (omega (arith, ints, below));
     }
 

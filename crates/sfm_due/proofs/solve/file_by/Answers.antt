@@ -5,4 +5,6 @@ use Rattle.sfm_due.proofs.Solves.{solved}
 use Rattle.sfm_due.proofs.solve.file_by.Goals as goal
 
 pub returns : goal.returns
-returns c = solved (header_text c.args.header) c.in_ok-write_with.field-0.items c.args.instance.now c.args.sizes.now (answer_of c.in_ok-solved.solved) c.in_ok-solved.ensures c.in_ok-write_with.ensures
+returns c = solved (header_text c.args.header) c.in_ok-write_with.field-0.items c.args.instance.now
+    c.args.sizes.now (answer_of c.in_ok-solved.solved) c.in_ok-solved.ensures
+    c.in_ok-write_with.ensures

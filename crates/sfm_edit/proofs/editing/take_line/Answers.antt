@@ -9,11 +9,13 @@ pub returns-in_default : goal.returns-in_default
 returns-in_default c =
     let tokens = tokens_of c.args.line.now in
     edit-other (editing_of c.args.edited.now) tokens
-    (empty-other (codes "drop") tokens c.in_default.ensures.cut) (empty-other (codes "add") tokens c.in_default.ensures.cut)
+    (empty-other (codes "drop") tokens c.in_default.ensures.cut)
+    (empty-other (codes "add") tokens c.in_default.ensures.cut)
 
 pub take_add-requires-clause-good : goal.take_add-requires-clause-good
 take_add-requires-clause-good c =
-    behind-good c.args.line.now c.in-Some.word.now c.in-Some.rest.now c.in-Some.ensures.placed c.requires.good
+    behind-good c.args.line.now c.in-Some.word.now c.in-Some.rest.now c.in-Some.ensures.placed
+    c.requires.good
 
 pub returns : goal.returns
 returns c =

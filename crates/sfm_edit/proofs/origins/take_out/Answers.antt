@@ -7,4 +7,5 @@ pub loop-taken-preserved : goal.loop-taken-preserved
 loop-taken-preserved c =
     c.remove.ensures.items
     ∙ (ap (λ l. remove l c.args.first) c.loop-taken.invariant
-    ∙ cut_out-more c.args.places.now.items c.args.first c.loop-taken._taken (omega (arith, c.requires, c.loop-taken-test.true)))
+    ∙ cut_out-more c.args.places.now.items c.args.first c.loop-taken._taken
+    (omega (arith, c.requires, c.loop-taken-test.true)))

@@ -5,4 +5,5 @@ use Rattle.sfm_edit.specs.Resuming.{first_of}
 use Rattle.sfm_edit.proofs.resuming.first_rows.Given as goal
 
 abbrev pub invariant-loop-j : goal.invariant-loop-j
-invariant-loop-j l = l.firsts ≡ map (λ (pair : Kind × Option ℕ). first_of l.rows pair.0 pair.1) (take l.j (zip l.terms l.kept))
+invariant-loop-j l = l.firsts ≡ map (λ (pair : Kind × Option ℕ). first_of l.rows pair.0 pair.1)
+    (take l.j (zip l.terms l.kept))

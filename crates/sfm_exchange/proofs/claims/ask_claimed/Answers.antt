@@ -10,13 +10,20 @@ use Rattle.sfm_exchange.proofs.Still.{still_begun, still_ready, still_then}
 use Rattle.sfm_exchange.proofs.claims.ask_claimed.Goals as goal
 
 -- what is in a set now was in the one before, which had what this has
-bit_back : (before after : Bits) (t : ℕ) → (bit_in before t ≢ 1 → bit_in after t ≢ 1) → bit_in after t ≡ 1 → bit_in before t ≡ 1
-bit_back before after t fall one = ⊎_elim (λ is. is) (λ ne. absurd (fall ne one)) (cases_eq (bit_in before t) 1)
+bit_back : (before after : Bits) (t : ℕ) → (bit_in before t ≢ 1 → bit_in after t ≢ 1)
+    → bit_in after t ≡ 1 → bit_in before t ≡ 1
+bit_back before after t fall one =
+    ⊎_elim (λ is. is) (λ ne. absurd (fall ne one)) (cases_eq (bit_in before t) 1)
 
 pub loop-e-init : goal.loop-e-init
 loop-e-init g c =
     let fq : FitsSigned w128 c.args.q = c.ranges.q in
-    simp to_z-of_z (still_begun c.requires.ready.claimed, refl, (λ d l. absurd (omega (arith, l))), (λ j t one. c.claimed_places-claimed.ensures j t (rw c.deref.ensures.value one)))
+    simp to_z-of_z (
+      still_begun c.requires.ready.claimed,
+      refl,
+      (λ d l. absurd (omega (arith, l))),
+      (λ j t one. c.claimed_places-claimed.ensures j t (rw c.deref.ensures.value one)),
+    )
 
 pub settle_place-requires-clause-ready : goal.settle_place-requires-clause-ready
 settle_place-requires-clause-ready g c = still_ready c.loop-e.invariant.0 c.requires.ready.small
@@ -41,16 +48,23 @@ loop-e-preserved g c =
     let here : IsSettled spots after c.loop-e.e = rw inv.1 at o.settled in
     let each : (d : ℕ) → d < c.loop-e.e + 1 → IsSettled spots after d = λ d l. ⊎_elim
     (λ less. λ k lk. o.kept _ d (inv.2 d less k lk))
-    (λ ge. let same : c.loop-e.e ≡ d = omega (arith, ge, l) in subst (IsSettled spots after) same here)
+    (λ ge. let same : c.loop-e.e ≡ d = omega (arith, ge, l) in subst (IsSettled spots after) same
+    here)
     (cases_lt d c.loop-e.e) in
-    simp to_z-of_z (still_then inv.0 (simp to_z-of_z at o.still), o.spots ∙ inv.1, each, (λ j t one. inv.3 j t (bit_back (set_at before j) (set_at after j) t (o.kept j t) one)))
+    simp to_z-of_z (
+      still_then inv.0 (simp to_z-of_z at o.still),
+      o.spots ∙ inv.1,
+      each,
+      (λ j t one. inv.3 j t (bit_back (set_at before j) (set_at after j) t (o.kept j t) one)),
+    )
 
 pub returns-clause-graph : goal.returns-clause-graph
 returns-clause-graph g c =
     let fq : FitsSigned w128 c.args.q = c.ranges.q in
     let inv = simp to_z-of_z at c.loop-e.invariant in
     let end = c.len-e-end.ensures in
-    whole_settled inv.0.claimed c.args.graph.now.spots.items c.requires.ready.claimed.are_spots (λ d l. inv.2 d (omega (arith, l, end, c.loop-e-test.false)))
+    whole_settled inv.0.claimed c.args.graph.now.spots.items c.requires.ready.claimed.are_spots
+    (λ d l. inv.2 d (omega (arith, l, end, c.loop-e-test.false)))
 
 pub returns-clause-bases : goal.returns-clause-bases
 returns-clause-bases g c = c.loop-e.invariant.0.bases

@@ -8,5 +8,8 @@ use Rattle.sfm_exchange.proofs.claims.ask_place.Given as goal
 abbrev pub invariant-loop-k : goal.invariant-loop-k
 invariant-loop-k g l = let t = g.T.Term in IsStill t l.terms l.q l.initial.graph l.graph
     × (l.graph.spots.items ≡ l.initial.graph.spots.items)
-    × ((j : ℕ) → j < l.k → bit_in (set_at l.graph.claimed.items (spot_at (spots_at l.initial.graph.spots.items l.e) j).term) l.e ≢ 1)
-    × ((j t : ℕ) → bit_in (set_at l.initial.graph.claimed.items j) t ≢ 1 → bit_in (set_at l.graph.claimed.items j) t ≢ 1)
+    × ((j : ℕ) → j < l.k → bit_in
+    (set_at l.graph.claimed.items (spot_at (spots_at l.initial.graph.spots.items l.e) j).term)
+    l.e ≢ 1)
+    × ((j t : ℕ) → bit_in (set_at l.initial.graph.claimed.items j) t ≢ 1
+    → bit_in (set_at l.graph.claimed.items j) t ≢ 1)

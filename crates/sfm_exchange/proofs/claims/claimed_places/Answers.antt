@@ -28,5 +28,7 @@ returns c = λ j e one.
     let sets = c.args.sets.now in
     ⊎_elim
     (λ there. c.loop-set.invariant j e there one)
-    (λ past. absurd (let z = ap (λ b. bit_in b e) (get_or_past sets j blank_bits (omega (arith, past, c.loop-set-test.false))) ∙ within_words blank_bits e (omega arith) in omega (arith, z, one)))
+    (λ past. absurd (let z = ap (λ b. bit_in b e)
+    (get_or_past sets j blank_bits (omega (arith, past, c.loop-set-test.false)))
+    ∙ within_words blank_bits e (omega arith) in omega (arith, z, one)))
     (cases_lt j c.loop-set.set-index)

@@ -1,4 +1,5 @@
--- the search so far, along the arcs of the graph at the same bases; no place is claimed but those that were
+-- the search so far, along the arcs of the graph at the same bases; no place is claimed but those
+-- that were
 use Rattle.std.proofs.Common.{◌≡◌, ℕ, length}
 use Rattle.sfm_spec.specs.Families.{meanings}
 use Rattle.sfm_spec.specs.Progress.{sum_below}
@@ -10,7 +11,9 @@ use Rattle.sfm_exchange.proofs.claims.walked_from.Given as goal
 
 abbrev pub invariant-loop-e : goal.invariant-loop-e
 invariant-loop-e g l = let t = g.T.Term in IsStill t l.terms l.q l.initial.graph l.graph
-    × IsSearching (length l.initial.graph.spots.items) (IsArc (meanings t.places t.value_of l.terms) l.q l.initial.graph.bases) l.firsts l.found l.ahead
+    × IsSearching (length l.initial.graph.spots.items)
+    (IsArc (meanings t.places t.value_of l.terms) l.q l.initial.graph.bases) l.firsts l.found
+    l.ahead
     × ((j t : ℕ) → bit_in (set_at l.graph.claimed.items j) t ≡ 1 → bit_in l.claimed t ≡ 1)
 
 abbrev pub decreases-loop-e : goal.decreases-loop-e

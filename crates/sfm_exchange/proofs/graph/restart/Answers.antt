@@ -12,7 +12,8 @@ pub ask_all-requires-clause-based : goal.ask_all-requires-clause-based
 ask_all-requires-clause-based g c =
     let m = g.met.T.Term in
     let fq : FitsSigned w128 c.args.q = c.ranges.q in
-    simp to_z-of_z (are_based m.submodular m.bounded c.requires.bounded c.requires.factor c.requires.bases c.requires.small)
+    simp to_z-of_z (are_based m.submodular m.bounded c.requires.bounded c.requires.factor
+    c.requires.bases c.requires.small)
 
 pub ask_all-requires-clause-rows : goal.ask_all-requires-clause-rows
 ask_all-requires-clause-rows g c = c.requires.graph.sized_rows
@@ -23,8 +24,10 @@ unions_of-requires g c =
     let ts = meanings t.places t.value_of c.args.terms.now in
     let tables = c.ask_all.new.rows.items in
     let spots = c.args.graph.now.spots.items in
-    let sized = sized_meanings t.places t.value_of c.args.terms.now tables c.in_ok-ask_all.ensures.sized in
-    let have : HaveRows tables spots = have_rows ts c.args.n spots tables c.requires.graph.are_spots sized.0 sized.1 in
+    let sized = sized_meanings t.places t.value_of c.args.terms.now tables
+    c.in_ok-ask_all.ensures.sized in
+    let have : HaveRows tables spots = have_rows ts c.args.n spots tables c.requires.graph.are_spots
+    sized.0 sized.1 in
     rw (c.deref.ensures.value, c.deref-2.ensures.value) have
 
 pub returns-clause-graph : goal.returns-clause-graph
@@ -35,7 +38,13 @@ returns-clause-graph g c =
       are_bases = c.requires.bases;
       are_sums = c.in_ok-graph.ensures;
       note_count = ask.count;
-      claim_count = omega (arith, c.fill.ensures.len, c.requires.graph.claim_count, c.args.graph.now.claimed.ok.0, c.fill.new.self.ok.0);
+      claim_count = omega (
+        arith,
+        c.fill.ensures.len,
+        c.requires.graph.claim_count,
+        c.args.graph.now.claimed.ok.0,
+        c.fill.new.self.ok.0,
+      );
       noted = simp to_z-of_z at ask.noted;
       sized_rows = ask.sized;
       tables = simp to_z-of_z at ask.tables;
@@ -45,7 +54,12 @@ returns-clause-graph g c =
     }
 
 pub turned_of-requires : goal.turned_of-requires
-turned_of-requires g c = rw (c.deref-3.ensures.value, c.in_ok-graph-3.ensures.count, c.deref.ensures.value, c.requires.graph.are_spots.count) c.requires.bounded.few
+turned_of-requires g c = rw (
+  c.deref-3.ensures.value,
+  c.in_ok-graph-3.ensures.count,
+  c.deref.ensures.value,
+  c.requires.graph.are_spots.count,
+) c.requires.bounded.few
 
 pub ask_all-requires-clause-count : goal.ask_all-requires-clause-count
 ask_all-requires-clause-count g c = c.in_ok-graph-2.ensures.count

@@ -4,7 +4,8 @@ use Rattle.sfm_exchange.proofs.levels.next_level.Goals as goal
 
 pub returns : goal.returns
 returns c = record {
-  parted = λ e. let n = c.meet_with.ensures e in let l = c.remove_all.ensures e in omega (arith, n, l);
+  parted = λ e. let n = c.meet_with.ensures e in let l = c.remove_all.ensures
+      e in omega (arith, n, l);
   leads = λ e one.
       let n = c.meet_with.ensures e in
       let b = bit_in-lt c.leading_into-next.result e in

@@ -8,7 +8,8 @@ use Rattle.sfm_exchange.proofs.Exchanging.{HaveMoved}
 use Rattle.sfm_exchange.proofs.moving.move_along.Given as goal
 
 abbrev pub invariant-loop-k : goal.invariant-loop-k
-invariant-loop-k g l = let t = g.T.Term in HaveMoved (meanings t.places t.value_of l.terms) l.q l.initial.graph.bases l.path.first l.path.hops.items l.a l.k l.graph.bases
+invariant-loop-k g l = let t = g.T.Term in HaveMoved (meanings t.places t.value_of l.terms) l.q
+    l.initial.graph.bases l.path.first l.path.hops.items l.a l.k l.graph.bases
     × IsClaimed t l.terms (length l.initial.graph.spots.items) l.q l.graph
     × All (λ x. All IsEntry x) l.graph.bases
 

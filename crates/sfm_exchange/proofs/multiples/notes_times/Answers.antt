@@ -26,7 +26,12 @@ pub row-x-requires : goal.row-x-requires
 row-x-requires g c = rw (base_count c.requires.other.1) c.loop-i-test.true
 
 pub index-kept-requires : goal.index-kept-requires
-index-kept-requires g c = omega (arith, c.loop-i-test.true, c.requires.other.1.note_count, c.args.other.now.graph.now.notes.ok.0)
+index-kept-requires g c = omega (
+  arith,
+  c.loop-i-test.true,
+  c.requires.other.1.note_count,
+  c.args.other.now.graph.now.notes.ok.0,
+)
 
 -- a factor fits
 factor_fits : (q : ℤ) → IsFactor q → FitsSigned w128 q
@@ -40,62 +45,94 @@ module _ (g : given.Over) (c : After-row-x g) where
   in_bases : c.loop-i.i < length c.args.other.now.graph.now.bases
   in_bases = rw (base_count c.requires.other.1) c.loop-i-test.true
 
-  multiplied : base_at (rows_times c.args.m c.args.other.now.graph.now.bases) c.loop-i.i ≡ row_times c.args.m x
-  multiplied = get_or-map (row_times c.args.m) c.args.other.now.graph.now.bases c.loop-i.i [] [] in_bases
+  multiplied : base_at (rows_times c.args.m c.args.other.now.graph.now.bases) c.loop-i.i ≡ row_times
+      c.args.m x
+  multiplied = get_or-map (row_times c.args.m) c.args.other.now.graph.now.bases c.loop-i.i [] []
+      in_bases
 
-  based : let t = g.T.Term in IsBased t.places t.value_of t.size_of c.index-terms-i.result c.args.other.now.q x
+  based : let t = g.T.Term in IsBased t.places t.value_of t.size_of c.index-terms-i.result
+      c.args.other.now.q x
   based =
       let t = g.T.Term in
       let m = g.met.T.Term in
       let o = c.requires.other.1 in
       let small = entries_small c.args.other.now.graph.now.bases c.requires.small in
-      (is_based t.places t.value_of t.size_of (size_low t.places t.value_of t.size_of m.submodular m.bounded) c.args.terms.now c.requires.other.0 c.args.other.now.q c.args.other.now.graph.now.bases o.bounded o.factor o.are_bases
-      c.loop-i.i c.loop-i-test.true c.index-terms-i.result c.index-terms-i.is (All-get_or (λ y. All IsEntry y) c.args.other.now.graph.now.bases c.loop-i.i [] in_bases small)).based
+      (is_based t.places t.value_of t.size_of
+      (size_low t.places t.value_of t.size_of m.submodular m.bounded) c.args.terms.now
+      c.requires.other.0 c.args.other.now.q c.args.other.now.graph.now.bases o.bounded o.factor
+      o.are_bases
+      c.loop-i.i c.loop-i-test.true c.index-terms-i.result c.index-terms-i.is
+      (All-get_or (λ y. All IsEntry y) c.args.other.now.graph.now.bases c.loop-i.i [] in_bases
+      small)).based
 
-  multiple : let t = g.T.Term in IsBased t.places t.value_of t.size_of c.index-terms-i.result (c.args.m *ℤ c.args.other.now.q) (row_times c.args.m x)
+  multiple : let t = g.T.Term in IsBased t.places t.value_of t.size_of c.index-terms-i.result
+      (c.args.m *ℤ c.args.other.now.q) (row_times c.args.m x)
   multiple =
       let t = g.T.Term in
       let m = g.met.T.Term in
       let o = c.requires.other.1 in
       let rows = c.args.other.now.graph.now.bases in
-      let small : All IsEntry (base_at (rows_times c.args.m rows) c.loop-i.i) = All-get_or (λ y. All IsEntry y) (rows_times c.args.m rows) c.loop-i.i [] (rw length-map in_bases) (rows_small c.args.m rows c.requires.times c.requires.small) in
-      let are = bases-times c.args.m c.args.other.now.q (meanings t.places t.value_of c.args.terms.now) rows c.requires.times.low o.are_bases in
-      rw multiplied at (is_based t.places t.value_of t.size_of (size_low t.places t.value_of t.size_of m.submodular m.bounded) c.args.terms.now c.requires.other.0 (c.args.m *ℤ c.args.other.now.q) (rows_times c.args.m rows) o.bounded c.requires.factor are
+      let small : All IsEntry (base_at (rows_times c.args.m rows) c.loop-i.i) = All-get_or
+      (λ y. All IsEntry y) (rows_times c.args.m rows) c.loop-i.i [] (rw length-map in_bases)
+      (rows_small c.args.m rows c.requires.times c.requires.small) in
+      let are = bases-times c.args.m c.args.other.now.q
+      (meanings t.places t.value_of c.args.terms.now) rows c.requires.times.low o.are_bases in
+      rw multiplied at (is_based t.places t.value_of t.size_of
+      (size_low t.places t.value_of t.size_of m.submodular m.bounded) c.args.terms.now
+      c.requires.other.0 (c.args.m *ℤ c.args.other.now.q) (rows_times c.args.m rows) o.bounded
+      c.requires.factor are
       c.loop-i.i c.loop-i-test.true c.index-terms-i.result c.index-terms-i.is small).based
 
 pub kept_times-requires-clause-based : goal.kept_times-requires-clause-based
 kept_times-requires-clause-based g c =
-    let fo : FitsSigned w128 c.args.other.now.q = factor_fits c.args.other.now.q c.requires.other.1.factor in
-    rw c.row-x.ensures (simp to_z-of_z (based g (goal.at.kept_times-requires-clause-based g c).After-row-x))
+    let fo : FitsSigned w128 c.args.other.now.q = factor_fits c.args.other.now.q
+    c.requires.other.1.factor in
+    rw c.row-x.ensures (simp to_z-of_z
+    (based g (goal.at.kept_times-requires-clause-based g c).After-row-x))
 
 pub kept_times-requires-clause-multiple : goal.kept_times-requires-clause-multiple
 kept_times-requires-clause-multiple g c =
-    let fo : FitsSigned w128 c.args.other.now.q = factor_fits c.args.other.now.q c.requires.other.1.factor in
+    let fo : FitsSigned w128 c.args.other.now.q = factor_fits c.args.other.now.q
+    c.requires.other.1.factor in
     let fm : FitsSigned w128 c.args.m = c.ranges.m in
-    rw c.row-x.ensures (simp to_z-of_z (multiple g (goal.at.kept_times-requires-clause-multiple g c).After-row-x))
+    rw c.row-x.ensures (simp to_z-of_z
+    (multiple g (goal.at.kept_times-requires-clause-multiple g c).After-row-x))
 
 pub kept_times-requires-clause-noted : goal.kept_times-requires-clause-noted
 kept_times-requires-clause-noted g c =
     let o = c.requires.other.1 in
-    let fit : kept_fits g.T.Term.fits c.index-terms-i.result c.index-kept.result.now c.args.other.now.q (base_at c.args.other.now.graph.now.bases c.loop-i.i)
-    = o.noted c.loop-i.i c.loop-i-test.true c.index-terms-i.result c.index-terms-i.is c.index-kept.result.now c.index-kept.ensures in
-    let fo : FitsSigned w128 c.args.other.now.q = factor_fits c.args.other.now.q c.requires.other.1.factor in
+    let fit : kept_fits g.T.Term.fits c.index-terms-i.result c.index-kept.result.now
+    c.args.other.now.q (base_at c.args.other.now.graph.now.bases c.loop-i.i)
+    = o.noted c.loop-i.i c.loop-i-test.true c.index-terms-i.result c.index-terms-i.is
+    c.index-kept.result.now c.index-kept.ensures in
+    let fo : FitsSigned w128 c.args.other.now.q = factor_fits c.args.other.now.q
+    c.requires.other.1.factor in
     rw c.row-x.ensures (simp to_z-of_z fit)
 
 pub index_mut-requires : goal.index_mut-requires
-index_mut-requires g c = omega (arith, c.loop-i-test.true, c.loop-i.invariant.count, c.loop-i.notes.ok.0)
+index_mut-requires g c = omega (
+  arith,
+  c.loop-i-test.true,
+  c.loop-i.invariant.count,
+  c.loop-i.notes.ok.0,
+)
 
 pub kept_times-requires-clause-other : goal.kept_times-requires-clause-other
-kept_times-requires-clause-other g c = c.loop-i.invariant.other c.loop-i.i (omega arith) c.loop-i-test.true c.index-terms-i.result c.index-terms-i.is c.index_mut.result.now c.index_mut.ensures.value
+kept_times-requires-clause-other g c =
+    c.loop-i.invariant.other c.loop-i.i (omega arith) c.loop-i-test.true c.index-terms-i.result
+    c.index-terms-i.is c.index_mut.result.now c.index_mut.ensures.value
 
 pub loop-i-preserved : goal.loop-i-preserved
 loop-i-preserved g c =
-    let fo : FitsSigned w128 c.args.other.now.q = factor_fits c.args.other.now.q c.requires.other.1.factor in
+    let fo : FitsSigned w128 c.args.other.now.q = factor_fits c.args.other.now.q
+    c.requires.other.1.factor in
     let fm : FitsSigned w128 c.args.m = c.ranges.m in
     let at = (goal.at.loop-i-preserved g c).After-row-x in
-    let fit = rw (c.row-x.ensures, ← multiplied g at) at (simp to_z-of_z at c.in_ok-kept_times.ensures) in
+    let fit = rw (c.row-x.ensures, ← multiplied g at) at
+    (simp to_z-of_z at c.in_ok-kept_times.ensures) in
     let so_far = simp to_z-of_z at c.loop-i.invariant in
-    simp to_z-of_z (notes_more so_far c.loop-i-test.true c.index-terms-i.result c.index-terms-i.is c.kept_times.new.to fit)
+    simp to_z-of_z (notes_more so_far c.loop-i-test.true c.index-terms-i.result c.index-terms-i.is
+    c.kept_times.new.to fit)
 
 pub returns-clause-count : goal.returns-clause-count
 returns-clause-count g c = c.loop-i.invariant.count

@@ -6,4 +6,5 @@ use Rattle.sfm_exchange.proofs.Notes.{AreNotesTo}
 use Rattle.sfm_exchange.proofs.multiples.notes_times.Given as goal
 
 abbrev pub invariant-loop-i : goal.invariant-loop-i
-invariant-loop-i g l = AreNotesTo (kept_fits g.T.Term.fits) (l.m *ℤ l.other.q) l.terms l.i l.notes.items (rows_times l.m l.other.graph.now.bases)
+invariant-loop-i g l = AreNotesTo (kept_fits g.T.Term.fits) (l.m *ℤ l.other.q) l.terms l.i
+    l.notes.items (rows_times l.m l.other.graph.now.bases)

@@ -15,7 +15,8 @@ invariant-loop-k g l = let t = g.T.Term in (l.k < length l.levels)
     × AreHops (meanings t.places t.value_of l.terms) l.graph.rows.items l.first l.hops.items
     × FallsAlong (depth_of l.levels) l.first (steps_of l.hops.items)
     × (length l.hops.items + l.k + 1 ≡ length l.levels)
-    × AreLeast (meanings t.places t.value_of l.terms) l.graph.rows.items (depth_of l.levels) l.first l.hops.items
+    × AreLeast (meanings t.places t.value_of l.terms) l.graph.rows.items (depth_of l.levels) l.first
+    l.hops.items
 
 abbrev pub decreases-loop-k : goal.decreases-loop-k
 decreases-loop-k g l = l.k

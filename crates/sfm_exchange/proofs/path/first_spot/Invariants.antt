@@ -6,4 +6,5 @@ use Rattle.sfm_reach.specs.Unions.{spot_row}
 use Rattle.sfm_exchange.proofs.path.first_spot.Given as goal
 
 abbrev pub invariant-loop-spot : goal.invariant-loop-spot
-invariant-loop-spot l = (j : ℕ) → j < l.spot-index → bit_in (spot_row l.rows (spot_at l.spots j)) l.to ≡ 1 → ⊥
+invariant-loop-spot l = (j : ℕ) → j < l.spot-index
+    → bit_in (spot_row l.rows (spot_at l.spots j)) l.to ≡ 1 → ⊥

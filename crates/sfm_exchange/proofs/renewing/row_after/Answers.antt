@@ -19,7 +19,11 @@ returns-then-contains-clause-row g c =
     let u = c.args.u in
     let lu : u < length places = rw (← b.based.entries) c.requires.from in
     let family = family-times _ at.base.q _ (g.met.T.Term.family at.term.now) in
-    let law = submodular-times _ at.base.q _ (omega (arith, ints, b.based.factor.low)) (g.met.T.Term.submodular at.term.now) in
-    let bit : bit_in raised.row (get_or places u 0) ≡ 1 = rw c.elements-places.ensures at (c.if-contains.ensures.0 refl) in
-    let is : IsJoined raised.row raised.row (get_or places raised.local 0) (get_or places u 0) c.joined.result = rw (r.place_is, ← c.elements-places.ensures) c.joined.ensures in
-    row_shared places b.placed.distinct family law at.base.x.now b.based.entries b.based.base raised.local u raised.row c.joined.result r.within lu r.row_is c.requires.leads bit is
+    let law = submodular-times _ at.base.q _ (omega (arith, ints, b.based.factor.low))
+    (g.met.T.Term.submodular at.term.now) in
+    let bit : bit_in raised.row (get_or places u 0) ≡ 1 = rw c.elements-places.ensures at
+    (c.if-contains.ensures.0 refl) in
+    let is : IsJoined raised.row raised.row (get_or places raised.local 0) (get_or places u 0)
+    c.joined.result = rw (r.place_is, ← c.elements-places.ensures) c.joined.ensures in
+    row_shared places b.placed.distinct family law at.base.x.now b.based.entries b.based.base
+    raised.local u raised.row c.joined.result r.within lu r.row_is c.requires.leads bit is

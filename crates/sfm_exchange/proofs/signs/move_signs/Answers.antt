@@ -10,4 +10,5 @@ returns c = λ before h moved.
     let fv : FitsSigned w128 (get_or c.args.z.now c.args.last (pos 0)) = search rules in
     let first = simp to_z-of_z at c.settle.ensures.here in
     let last = simp to_z-of_z at c.settle-2.ensures.here in
-    signs_moved before c.args.z.now c.args.first c.args.last c.args.signs.now _ h moved refl first c.settle.ensures.others last c.settle-2.ensures.others
+    signs_moved before c.args.z.now c.args.first c.args.last c.args.signs.now _ h moved refl first
+    c.settle.ensures.others last c.settle-2.ensures.others

@@ -22,13 +22,15 @@ rest_of-requires-clause-few g c = c.requires.bounded.few_places
 pub rest_of-requires-clause-rows : goal.rest_of-requires-clause-rows
 rest_of-requires-clause-rows g c =
     let t = g.T.Term in
-    length-bases c.requires.bases.0 (meanings t.places t.value_of c.args.terms.now) c.args.bases.now c.requires.bases.1 ∙ length-meanings t.places t.value_of c.args.terms.now
+    length-bases c.requires.bases.0 (meanings t.places t.value_of c.args.terms.now) c.args.bases.now
+    c.requires.bases.1 ∙ length-meanings t.places t.value_of c.args.terms.now
 
 pub rest_of-requires-clause-entries : goal.rest_of-requires-clause-entries
 rest_of-requires-clause-entries g c =
     let t = g.T.Term in
     let ts = meanings t.places t.value_of c.args.terms.now in
-    λ i l. (bases-at c.requires.bases.0 ts c.args.bases.now i c.requires.bases.1 (rw (length-meanings t.places t.value_of c.args.terms.now) l)).0
+    λ i l. (bases-at c.requires.bases.0 ts c.args.bases.now i c.requires.bases.1
+    (rw (length-meanings t.places t.value_of c.args.terms.now) l)).0
 
 pub rest_of-requires-clause-small : goal.rest_of-requires-clause-small
 rest_of-requires-clause-small g c = c.requires.small
@@ -48,13 +50,15 @@ returns g c =
     let bases = c.args.bases.now in
     let shift = c.deref.result.now in
     let same : shift ≡ replicate n (pos 0) = search rules in
-    IfOk-weaker c.rest_of.result (λ z. IsRest ts shift bases z.items) (λ z. AreSums ts n bases z.items)
+    IfOk-weaker c.rest_of.result (λ z. IsRest ts shift bases z.items)
+    (λ z. AreSums ts n bases z.items)
     (λ z h.
     let count : length z.items ≡ n = h.places ∙ (ap length same ∙ length-replicate n (pos 0)) in
     record {
       places = count;
       exact = λ e l.
           let r = h.exact e (rw count l) in
-          let s : get_or shift e (pos 0) ≡ pos 0 = ap (λ y. get_or y e (pos 0)) same ∙ get_or-replicate n e (pos 0) (pos 0) l in
+          let s : get_or shift e (pos 0) ≡ pos 0 = ap (λ y. get_or y e (pos 0)) same
+          ∙ get_or-replicate n e (pos 0) (pos 0) l in
           omega (arith, ints, r, s);
     }) c.rest_of.ensures

@@ -12,8 +12,10 @@ overflow_add-sum c =
     let z = c.args.z.now in
     let i = c.loop-a.a-index in
     let fa : FitsSigned w128 (get_or z i (pos 0)) = search rules in
-    let m : c.min-sum.result ≡ int_min (get_or z i (pos 0)) (pos 0) = simp to_z-of_z at c.min-sum.ensures.value in
-    let s = deficit_step z i (to_z w128 c.loop-a.sum-bits) c.loop-a-test.true c.loop-a.invariant.0 c.loop-a.invariant.1 c.loop-a.invariant.2 in
+    let m : c.min-sum.result ≡ int_min (get_or z i (pos 0)) (pos 0) = simp to_z-of_z at
+    c.min-sum.ensures.value in
+    let s = deficit_step z i (to_z w128 c.loop-a.sum-bits) c.loop-a-test.true c.loop-a.invariant.0
+    c.loop-a.invariant.1 c.loop-a.invariant.2 in
     let bound : magnitudes z ≤ℤ pos (10 ^ 37) = c.requires in
     let low = magnitudes-low (drop (i + 1) z) in
     omega (arith, ints, m, s.1, s.2, bound, low)
@@ -23,10 +25,15 @@ loop-a-preserved c =
     let z = c.args.z.now in
     let i = c.loop-a.a-index in
     let fa : FitsSigned w128 (get_or z i (pos 0)) = search rules in
-    let m : c.min-sum.result ≡ int_min (get_or z i (pos 0)) (pos 0) = simp to_z-of_z at c.min-sum.ensures.value in
-    let s = deficit_step z i (to_z w128 c.loop-a.sum-bits) c.loop-a-test.true c.loop-a.invariant.0 c.loop-a.invariant.1 c.loop-a.invariant.2 in
-    let fits = overflow_add-sum c in
-    (omega (arith, ints, m, s.0, fits), omega (arith, ints, m, s.1, fits), omega (arith, ints, m, s.2, fits))
+    let m : c.min-sum.result ≡ int_min (get_or z i (pos 0)) (pos 0) = simp to_z-of_z at
+    c.min-sum.ensures.value in
+    let s = deficit_step z i (to_z w128 c.loop-a.sum-bits) c.loop-a-test.true c.loop-a.invariant.0
+    c.loop-a.invariant.1 c.loop-a.invariant.2 in
+    let fits = overflow_add-sum c in (
+      omega (arith, ints, m, s.0, fits),
+      omega (arith, ints, m, s.1, fits),
+      omega (arith, ints, m, s.2, fits),
+    )
 
 pub returns : goal.returns
 returns c =

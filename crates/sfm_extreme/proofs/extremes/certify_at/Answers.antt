@@ -10,12 +10,14 @@ use Rattle.sfm_extreme.proofs.extremes.certify_at.Goals as goal
 use Rattle.sfm_extreme.proofs.extremes.certify_at.Goals.{After-told_by}
 
 -- what is told of the graph is told of the bases
-told : (g : given.Over) (c : After-told_by g) → let t = g.T.Term in let ts = meanings t.places t.value_of c.args.terms.now in
+told : (g : given.Over) (c : After-told_by g)
+    → let t = g.T.Term in let ts = meanings t.places t.value_of c.args.terms.now in
     IfOk c.told_by.result (λ r. IsAnswer ts c.args.n c.args.q c.args.shift.now c.args.bases.now r
     × (IsProved r ↔ Prove ts c.args.n c.args.q c.args.shift.now c.args.bases.now))
 told g c =
     let fq : FitsSigned w128 c.args.q = c.ranges.q in
-    rw (c.requires.each, c.in_ok-reading.ensures.graph, c.in_ok-graph.ensures.bases) at (simp to_z-of_z at c.told_by.ensures)
+    rw (c.requires.each, c.in_ok-reading.ensures.graph, c.in_ok-graph.ensures.bases) at
+    (simp to_z-of_z at c.told_by.ensures)
 
 pub read_graph-requires-clause-whole : goal.read_graph-requires-clause-whole
 read_graph-requires-clause-whole g c =
@@ -28,10 +30,12 @@ read_graph-requires-clause-small g c = rw c.in_ok-graph.ensures.bases c.requires
 pub told_by-requires-clause-reading : goal.told_by-requires-clause-reading
 told_by-requires-clause-reading g c =
     let fq : FitsSigned w128 c.args.q = c.ranges.q in
-    simp to_z-of_z (c.in_ok-reading.ensures.reading c.args.q (rw c.requires.each (simp to_z-of_z at c.in_ok-graph.ensures.graph)))
+    simp to_z-of_z (c.in_ok-reading.ensures.reading c.args.q
+    (rw c.requires.each (simp to_z-of_z at c.in_ok-graph.ensures.graph)))
 
 pub told_by-requires-clause-small : goal.told_by-requires-clause-small
-told_by-requires-clause-small g c = rw (c.in_ok-reading.ensures.graph, c.in_ok-graph.ensures.bases) c.requires.small
+told_by-requires-clause-small g c = rw (c.in_ok-reading.ensures.graph, c.in_ok-graph.ensures.bases)
+    c.requires.small
 
 pub returns-clause-answer : goal.returns-clause-answer
 returns-clause-answer g c =

@@ -34,9 +34,13 @@ returns-clause-exact g c =
     let ts = meanings t.places t.value_of c.args._terms.now in
     let reading = c.args.reading.now in
     let h = c.requires.reading in
-    IfOk-weaker c.blocks_by.result _ (λ r. AreBlocks ts n (pos 1) shift (map block_of r.items)) (λ r (k : AreBlocksBy reading.graph.now.unions.items c.union_with.new.self (map block_of r.items)).
-    let told = tells h m.family m.submodular c.requires.prove c.union_with.new.self c.union_with.ensures k.rows k.pulls in
-    blocks_are ts n (pos 1) shift _ k.rows told k.firsts k.are_firsts (map block_of r.items) k.grouped) (rw c.deref.ensures.value at c.blocks_by.ensures)
+    IfOk-weaker c.blocks_by.result _ (λ r. AreBlocks ts n (pos 1) shift (map block_of r.items))
+    (λ r (k : AreBlocksBy reading.graph.now.unions.items c.union_with.new.self
+    (map block_of r.items)).
+    let told = tells h m.family m.submodular c.requires.prove c.union_with.new.self
+    c.union_with.ensures k.rows k.pulls in
+    blocks_are ts n (pos 1) shift _ k.rows told k.firsts k.are_firsts (map block_of r.items)
+    k.grouped) (rw c.deref.ensures.value at c.blocks_by.ensures)
 
 pub returns-clause-generate : goal.returns-clause-generate
 returns-clause-generate g c =
@@ -44,7 +48,12 @@ returns-clause-generate g c =
     let m = g.met.T.Term in
     let n = c.args._n in
     let ts = meanings t.places t.value_of c.args._terms.now in
-    let fit : AreTerms n ts = meanings-terms n t.places t.value_of m.family m.submodular c.args._terms.now (placed-meanings n t.places t.value_of c.args._terms.now c.requires.reading.whole.bounded.placed) in
+    let fit : AreTerms n ts = meanings-terms n t.places t.value_of m.family m.submodular
+    c.args._terms.now (placed-meanings n t.places t.value_of c.args._terms.now
+    c.requires.reading.whole.bounded.placed) in
     let low : pos 0 ≤ℤ pos 1 = omega (arith, ints) in
-    IfOk-weaker c.blocks_by.result _ (λ r. Generate ts n (pos 1) (even_shift n (pos 0)) (map block_of r.items)) (λ r (h : AreBlocks ts n (pos 1) (even_shift n (pos 0)) (map block_of r.items)).
-    blocks_generate ts n (pos 1) (even_shift n (pos 0)) low fit (map block_of r.items) h) (returns-clause-exact g c)
+    IfOk-weaker c.blocks_by.result _
+    (λ r. Generate ts n (pos 1) (even_shift n (pos 0)) (map block_of r.items))
+    (λ r (h : AreBlocks ts n (pos 1) (even_shift n (pos 0)) (map block_of r.items)).
+    blocks_generate ts n (pos 1) (even_shift n (pos 0)) low fit (map block_of r.items) h)
+    (returns-clause-exact g c)

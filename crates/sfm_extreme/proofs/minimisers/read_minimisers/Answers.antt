@@ -15,5 +15,6 @@ pub returns-clause-answer : goal.returns-clause-answer
 returns-clause-answer g c =
     let t = g.T.Term in
     IfOk-weaker c.minimisers_at.result _ _
-    (λ r h. subst (λ b. IsAnswer (meanings t.places t.value_of c.args.terms.now) c.args.n (pos 1) (even_shift c.args.n (pos 0)) b (Proved r.proved)) c.in_ok-graph.ensures.bases h)
+    (λ r h. subst (λ b. IsAnswer (meanings t.places t.value_of c.args.terms.now) c.args.n (pos 1)
+    (even_shift c.args.n (pos 0)) b (Proved r.proved)) c.in_ok-graph.ensures.bases h)
     c.minimisers_at.ensures.answer

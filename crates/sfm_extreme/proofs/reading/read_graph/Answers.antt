@@ -11,11 +11,14 @@ use Rattle.sfm_extreme.proofs.reading.read_graph.Goals as goal
 use Rattle.sfm_extreme.proofs.reading.read_graph.Goals.{After-signs_of-signs}
 
 -- z is what the bases leave of the shift
-rest : (g : given.Over) (c : After-signs_of-signs g) → let t = g.T.Term in IsRest (meanings t.places t.value_of c.args.terms.now) c.args.shift.now c.args.graph.now.bases c.in_ok-z.z.items
+rest : (g : given.Over) (c : After-signs_of-signs g)
+    → let t = g.T.Term in IsRest (meanings t.places t.value_of c.args.terms.now) c.args.shift.now
+    c.args.graph.now.bases c.in_ok-z.z.items
 rest g c = c.in_ok-z.ensures
 
 -- and the signs are those of z
-signed : (g : given.Over) (c : After-signs_of-signs g) → AreSigns c.in_ok-z.z.items c.signs_of-signs.result
+signed : (g : given.Over) (c : After-signs_of-signs g)
+    → AreSigns c.in_ok-z.z.items c.signs_of-signs.result
 signed g c = rw c.deref.ensures.value at c.signs_of-signs.ensures
 
 pub rest_of-requires-clause-placed : goal.rest_of-requires-clause-placed
@@ -34,25 +37,32 @@ pub rest_of-requires-clause-rows : goal.rest_of-requires-clause-rows
 rest_of-requires-clause-rows g c =
     let t = g.T.Term in
     let (q, h) = c.requires.whole in
-    length-bases q (meanings t.places t.value_of c.args.terms.now) c.args.graph.now.bases h.exact.are_bases ∙ length-meanings t.places t.value_of c.args.terms.now
+    length-bases q (meanings t.places t.value_of c.args.terms.now) c.args.graph.now.bases
+    h.exact.are_bases ∙ length-meanings t.places t.value_of c.args.terms.now
 
 pub rest_of-requires-clause-entries : goal.rest_of-requires-clause-entries
 rest_of-requires-clause-entries g c = λ i l.
     let t = g.T.Term in
     let (q, h) = c.requires.whole in
-    (bases-at q (meanings t.places t.value_of c.args.terms.now) c.args.graph.now.bases i h.exact.are_bases (rw (length-meanings t.places t.value_of c.args.terms.now) l)).0
+    (bases-at q (meanings t.places t.value_of c.args.terms.now) c.args.graph.now.bases i
+    h.exact.are_bases (rw (length-meanings t.places t.value_of c.args.terms.now) l)).0
 
 pub signs_of-signs-requires : goal.signs_of-signs-requires
-signs_of-signs-requires g c = let few = c.requires.whole.1.bounded.few in rw (c.deref.ensures.value, c.in_ok-z.ensures.places) few
+signs_of-signs-requires g c = let few = c.requires.whole.1.bounded.few in rw (
+  c.deref.ensures.value,
+  c.in_ok-z.ensures.places,
+) few
 
 pub reached_from-reached-requires-clause-few : goal.reached_from-reached-requires-clause-few
-reached_from-reached-requires-clause-few g c = let h = c.requires.whole.1 in rw (c.deref-2.ensures.value, unions_count h) h.bounded.few
+reached_from-reached-requires-clause-few g c =
+    let h = c.requires.whole.1 in rw (c.deref-2.ensures.value, unions_count h) h.bounded.few
 
 pub reached_from-reached-requires-clause-firsts : goal.reached_from-reached-requires-clause-firsts
 reached_from-reached-requires-clause-firsts g c =
     let m = g.met.T.Term in
     let at = (goal.at.reached_from-reached-requires-clause-firsts g c).After-signs_of-signs in
-    rw c.deref-2.ensures.value (under_in c.requires.whole.1 m.family m.submodular (rest g at).places (rest g at) (signed g at))
+    rw c.deref-2.ensures.value (under_in c.requires.whole.1 m.family m.submodular (rest g at).places
+    (rest g at) (signed g at))
 
 pub reached_from-reached-requires-clause-links : goal.reached_from-reached-requires-clause-links
 reached_from-reached-requires-clause-links g c =
@@ -60,13 +70,16 @@ reached_from-reached-requires-clause-links g c =
     rw c.deref-2.ensures.value (link_in c.requires.whole.1 m.family m.submodular)
 
 pub reached_from-leading-requires-clause-few : goal.reached_from-leading-requires-clause-few
-reached_from-leading-requires-clause-few g c = let count = c.requires.whole.1.exact.are_turned.count in rw c.deref-3.ensures.value (omega (arith, count))
+reached_from-leading-requires-clause-few g c =
+    let count = c.requires.whole.1.exact.are_turned.count in rw c.deref-3.ensures.value
+    (omega (arith, count))
 
 pub reached_from-leading-requires-clause-firsts : goal.reached_from-leading-requires-clause-firsts
 reached_from-leading-requires-clause-firsts g c =
     let m = g.met.T.Term in
     let at = (goal.at.reached_from-leading-requires-clause-firsts g c).After-signs_of-signs in
-    rw c.deref-3.ensures.value (over_in c.requires.whole.1 m.family m.submodular (rest g at).places (rest g at) (signed g at))
+    rw c.deref-3.ensures.value (over_in c.requires.whole.1 m.family m.submodular (rest g at).places
+    (rest g at) (signed g at))
 
 pub reached_from-leading-requires-clause-links : goal.reached_from-leading-requires-clause-links
 reached_from-leading-requires-clause-links g c =

@@ -19,8 +19,12 @@ returns-clause-settled c =
     let others = rw c.elements.ensures at c.remove.ensures.others in
     record {
       inner = e.noted;
-      count = ap length c.set.ensures ∙ (length-set c.row_by.new.rows v c.in_ok-row.row ∙ (ap length e.same ∙ s.count));
-      claims = rw (c.set.ensures, e.same) (claims_asked (kind_places kind) b.placed.distinct (times c.args.q (kind_value kind)) note.base note.claimed c.remove.new.self note.rows v c.in_ok-row.row inside (rw s.count inside) s.claims e.row others);
+      count = ap length c.set.ensures
+          ∙ (length-set c.row_by.new.rows v c.in_ok-row.row ∙ (ap length e.same ∙ s.count));
+      claims = rw (c.set.ensures, e.same)
+          (claims_asked (kind_places kind) b.placed.distinct (times c.args.q (kind_value kind))
+          note.base note.claimed c.remove.new.self note.rows v c.in_ok-row.row inside
+          (rw s.count inside) s.claims e.row others);
       nothing = s.nothing;
     }
 
@@ -28,5 +32,11 @@ pub returns-clause-told : goal.returns-clause-told
 returns-clause-told c = λ bit.
     let b = c.requires.based in
     let e = rw (factor_kept _ b.based.factor, c.as_slice-x.ensures) at c.in_ok-row.ensures in
-    let inside : c.args.v < length c.args.note.now.rows = rw (c.requires.settled.count, ← b.based.entries) c.requires.from in
-    rw (c.set.ensures, e.same, get_or-set_same c.args.note.now.rows c.args.v c.in_ok-row.row blank_bits inside) e.row
+    let inside : c.args.v < length
+    c.args.note.now.rows = rw (c.requires.settled.count, ← b.based.entries) c.requires.from in
+    rw (
+      c.set.ensures,
+      e.same,
+      get_or-set_same c.args.note.now.rows c.args.v c.in_ok-row.row
+          blank_bits inside,
+    ) e.row

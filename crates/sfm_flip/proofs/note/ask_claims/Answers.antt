@@ -10,8 +10,11 @@ use Rattle.sfm_kind.proofs.Passed.{factor_kept}
 use Rattle.sfm_flip.specs.Known.{AreTrueAt}
 use Rattle.sfm_flip.proofs.note.ask_claims.Goals as goal
 
-true_more : (places : List ℕ) (f : SetFunction) (x : List ℤ) (before after : List Bits) (place k : ℕ) → AreTrueAt places f x before place k → ((w : ℕ) → w ≢ k → set_at after w ≡ set_at before w)
-    → (bit_in (set_at after k) place ≡ 1 → IsRow places f x k (set_at after k)) → AreTrueAt places f x after place (k + 1)
+true_more : (places : List ℕ) (f : SetFunction) (x : List ℤ) (before after : List Bits)
+    (place k : ℕ) → AreTrueAt places f x before place k
+    → ((w : ℕ) → w ≢ k → set_at after w ≡ set_at before w)
+    → (bit_in (set_at after k) place ≡ 1 → IsRow places f x k (set_at after k))
+    → AreTrueAt places f x after place (k + 1)
 true_more places f x before after place k h others told v lv = at (cases_eq v k) where
   Goal : ℕ → Bits → Type 0
   Goal v row = bit_in row place ≡ 1 → IsRow places f x v row
@@ -29,7 +32,9 @@ loop-v-preserved c =
     record {
       base = e.base ∙ inv.base;
       settled = c.in_ok-ask_claim.ensures.settled;
-      told = rw factor (true_more (kind_places kind) (times c.args.q (kind_value kind)) c.args.note.now.base c.loop-v.note.rows c.ask_claim.new.note.rows c.args.place c.loop-v.v inv.told e.others (rw inv.base at e.told));
+      told = rw factor (true_more (kind_places kind) (times c.args.q (kind_value kind))
+          c.args.note.now.base c.loop-v.note.rows c.ask_claim.new.note.rows c.args.place c.loop-v.v
+          inv.told e.others (rw inv.base at e.told));
     }
 
 pub returns-clause-told : goal.returns-clause-told

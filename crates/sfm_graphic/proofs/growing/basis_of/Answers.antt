@@ -8,4 +8,5 @@ pub grow-requires : goal.grow-requires
 grow-requires c = ap length c.in_ok-all.ensures ∙ length-replicate _ _
 
 pub returns : goal.returns
-returns c = IfOk-weaker c.grow.result _ _ (λ t is. basis_from c.args.ends.now _ t c.in_ok-all.ensures is) c.grow.ensures.taken
+returns c = IfOk-weaker c.grow.result _ _
+    (λ t is. basis_from c.args.ends.now _ t c.in_ok-all.ensures is) c.grow.ensures.taken

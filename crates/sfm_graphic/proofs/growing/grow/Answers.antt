@@ -11,13 +11,15 @@ are : (c : After-deref_mut) → c.deref_mut.result.now ≡ c.args.ends.now
 are c = c.deref_mut.ensures.value ∙ c.in_ok-labels.ensures.items
 
 pub take_each-requires-clause-places : goal.take_each-requires-clause-places
-take_each-requires-clause-places c = rw (are (goal.at.take_each-requires-clause-places c).After-deref_mut) c.requires
+take_each-requires-clause-places c =
+    rw (are (goal.at.take_each-requires-clause-places c).After-deref_mut) c.requires
 
 pub take_each-requires-clause-none : goal.take_each-requires-clause-none
 take_each-requires-clause-none c = c.in_ok-t.ensures ∙ ap empty_set c.len.ensures
 
 pub returns-clause-taken : goal.returns-clause-taken
-returns-clause-taken c = rw (are (goal.at.returns-clause-taken c).After-deref_mut) at c.take_each.ensures
+returns-clause-taken c = rw (are (goal.at.returns-clause-taken c).After-deref_mut) at
+    c.take_each.ensures
 
 pub returns-clause-places : goal.returns-clause-places
 returns-clause-places c =

@@ -10,7 +10,11 @@ use Rattle.sfm_graphic.proofs.growing.take_each.Goals.{then-contains, else-conta
 pub loop-e-init : goal.loop-e-init
 loop-e-init c =
     let ends = c.args.labels.now in
-    record { labels = labels-first c.args.s.now ends; taken = c.requires.none ∙ ap empty_set (c.requires.places ∙ sym (length-edges ends)) }
+    record {
+      labels = labels-first c.args.s.now ends;
+      taken = c.requires.none
+          ∙ ap empty_set (c.requires.places ∙ sym (length-edges ends));
+    }
 
 pub loop-e-preserved : goal.loop-e-preserved
 loop-e-preserved c =
@@ -19,19 +23,29 @@ loop-e-preserved c =
     let e = c.loop-e.e in
     let inv = c.loop-e.invariant in
     let ks : length s ≡ length (edges_of ends) = c.requires.places ∙ sym (length-edges ends) in
-    let lt : e < length (edges_of ends) = omega (arith, c.loop-e-test.true, c.loop-e.auto.e-end, ks) in
+    let lt : e < length (edges_of ends) = omega (
+      arith,
+      c.loop-e-test.true,
+      c.loop-e.auto.e-end,
+      ks,
+    ) in
     elim c.if-contains.branch [
       | then-contains w ↦
           let has = sym c.contains.ensures ∙ w.if-contains.true in
           record {
-            labels = w.labels-is ∙ (w.take.ensures.labels ∙ labels-next (edges_of ends) s e lt c.loop-e.labels inv.labels has);
-            taken = w.t-is ∙ (w.take.ensures.taken ∙ taken-next (edges_of ends) s e lt c.loop-e.labels inv.labels c.loop-e.t inv.taken has);
+            labels = w.labels-is ∙ (w.take.ensures.labels
+                ∙ labels-next (edges_of ends) s e lt c.loop-e.labels inv.labels has);
+            taken = w.t-is ∙ (w.take.ensures.taken
+                ∙ taken-next (edges_of ends) s e lt c.loop-e.labels inv.labels c.loop-e.t inv.taken
+                has);
           }
       | else-contains w ↦
           let out = sym c.contains.ensures ∙ w.if-contains.false in
           record {
-            labels = w.labels-is ∙ labels-same (edges_of ends) s e lt c.loop-e.labels inv.labels out;
-            taken = w.t-is ∙ taken-same (edges_of ends) s e lt c.loop-e.labels inv.labels c.loop-e.t inv.taken out;
+            labels = w.labels-is ∙ labels-same (edges_of ends) s e lt c.loop-e.labels inv.labels
+                out;
+            taken = w.t-is ∙ taken-same (edges_of ends) s e lt c.loop-e.labels inv.labels c.loop-e.t
+                inv.taken out;
           }
     ]
 
@@ -50,5 +64,10 @@ take-requires-clause-place c =
 
 pub returns : goal.returns
 returns c =
-    let e : c.loop-e.e ≡ length c.args.labels.now = omega (arith, c.loop-e-test.false, c.loop-e.auto.e-end, c.requires.places) in
+    let e : c.loop-e.e ≡ length c.args.labels.now = omega (
+      arith,
+      c.loop-e-test.false,
+      c.loop-e.auto.e-end,
+      c.requires.places,
+    ) in
     c.loop-e.invariant.taken ∙ ap (λ n. taken (edges_of c.args.labels.now) c.args.s.now n) e

@@ -12,9 +12,16 @@ loop-pair-preserved c = λ k lt.
     (cases_lt k i)
 
 pub returns-then-pair-a : goal.returns-then-pair-a
-returns-then-pair-a c = ((λ t. tail_at c.args.ends.now c.args.a c.loop-pair.pair-index c.loop-pair-test.true c.if-pair-a.true), (λ h. refl))
+returns-then-pair-a c = (
+  (λ t. tail_at c.args.ends.now c.args.a c.loop-pair.pair-index c.loop-pair-test.true
+      c.if-pair-a.true),
+  (λ h. refl),
+)
 
 pub returns : goal.returns
 returns c =
-    let end = c.loop-pair-test.false in
-    ((λ t. absurd (false≢true t)), (λ h. absurd (no_tail c.args.ends.now c.args.a (λ k lt. c.loop-pair.invariant k (omega (arith, lt, end))) h)))
+    let end = c.loop-pair-test.false in (
+      (λ t. absurd (false≢true t)),
+      (λ h. absurd (no_tail c.args.ends.now c.args.a
+          (λ k lt. c.loop-pair.invariant k (omega (arith, lt, end))) h)),
+    )

@@ -22,7 +22,9 @@ loop-a-preserved c =
     let passed = c.if-not-branch.false in
     let told = c.in_ok-passes_tail.ensures in
     let held = c.loop-a.held in
-    let is = written c.passes_tail.new.held (drop (length c.passes_tail.new.held) held.items) held.len (c.passes_tail.auto.held ∙ (ap length c.deref_mut.ensures.value ∙ sym held.ok.0)) in
+    let is = written c.passes_tail.new.held (drop (length c.passes_tail.new.held) held.items)
+    held.len (c.passes_tail.auto.held
+    ∙ (ap length c.deref_mut.ensures.value ∙ sym held.ok.0)) in
     record {
       over = told.over passed;
       passed = λ b lb tail. ⊎_elim
@@ -34,8 +36,11 @@ loop-a-preserved c =
 
 pub returns-then-not-branch : goal.returns-then-not-branch
 returns-then-not-branch c =
-    let told = c.in_ok-passes_tail.ensures.told in
-    ((λ t. absurd (false≢true t)), (λ h. absurd (both_ways c.in_ok-passes_tail.field-0 c.if-not-branch.true (told.1 (h c.loop-a.a c.loop-a-test.true)))))
+    let told = c.in_ok-passes_tail.ensures.told in (
+      (λ t. absurd (false≢true t)),
+      (λ h. absurd (both_ways c.in_ok-passes_tail.field-0 c.if-not-branch.true
+          (told.1 (h c.loop-a.a c.loop-a-test.true)))),
+    )
 
 pub passes_tail-requires-clause-amounts : goal.passes_tail-requires-clause-amounts
 passes_tail-requires-clause-amounts c = c.requires.amounts

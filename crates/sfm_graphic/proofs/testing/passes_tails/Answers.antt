@@ -18,7 +18,8 @@ not_none : (n : ℕ) (r : Bool) → r ≡ nat_eq n 0 → r ≡ false → 0 < n
 not_none zero r e f = absurd (false≢true (sym f ∙ e))
 not_none (suc n) r e f = omega arith
 
-none_split : (d : Demands) (o : Option Kept) → ((k : Kept) → o ≡ Some k → ⊥) → IsSplitOrNone d o → CanBeMet d.demands d.lists d.capacities → ⊥
+none_split : (d : Demands) (o : Option Kept) → ((k : Kept) → o ≡ Some k → ⊥) → IsSplitOrNone d o
+    → CanBeMet d.demands d.lists d.capacities → ⊥
 none_split d None none is can = is can
 none_split d (Some k) none is can = none k refl
 
@@ -34,14 +35,17 @@ returns-in_default c =
     let ends = g.ends in
     let x = c.args.x.now in
     let fm : FitsSigned w128 c.args.most = c.ranges.most in
-    let none = none_split _ _ c.in_default.not-Some (simp to_z-of_z at (rw c.in_ok-demand.ensures at c.in_ok-kept.ensures)) in
+    let none = none_split _ _ c.in_default.not-Some
+    (simp to_z-of_z at (rw c.in_ok-demand.ensures at c.in_ok-kept.ensures)) in
     let is = c.as_slice-ends.ensures in
     let some : 0 < length ends = rw is at (not_none _ _ c.is_empty.ensures c.if-is_empty.false) in
     let first = (get_or c.as_slice-ends.result.now 0 (0, 0)).0 in
     let lt : first < g.vertices = rw is (pair-below ends g.vertices 0 g.below some).0 in
-    let tail = tail_at ends first 0 some (sym (ap (λ (pairs : List (ℕ × ℕ)). (get_or pairs 0 (0, 0)).0) is)) in (
+    let tail = tail_at ends first 0 some
+    (sym (ap (λ (pairs : List (ℕ × ℕ)). (get_or pairs 0 (0, 0)).0) is)) in (
       (λ t. absurd (false≢true t)),
-      (λ h. absurd (none (within_ends_split (edges_of ends) g.vertices g.below c.args.most x r.sized first lt r.low (amounts_count x r.amounts) (h first lt tail)))),
+      (λ h. absurd (none (within_ends_split (edges_of ends) g.vertices g.below c.args.most x r.sized
+          first lt r.low (amounts_count x r.amounts) (h first lt tail)))),
     )
 
 pub returns-then-is_empty : goal.returns-then-is_empty

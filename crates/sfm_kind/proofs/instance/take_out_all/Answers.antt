@@ -12,7 +12,8 @@ loop-taken-preserved c =
     let done = c.take_out.ensures in (
       done.terms
           ∙ (ap (λ l. remove l c.args.first) inv.0
-          ∙ cut_out-more c.args.terms.now.items c.args.first c.loop-taken._taken (omega (arith, c.requires.within, c.loop-taken-test.true))),
+          ∙ cut_out-more c.args.terms.now.items c.args.first c.loop-taken._taken
+          (omega (arith, c.requires.within, c.loop-taken-test.true))),
       done.supported ∙ ap support_of (sym done.terms),
       done.totalled ∙ ap total_size_of (sym done.terms),
       omega (arith, ints, done.smaller, inv.3),

@@ -10,4 +10,5 @@ returns c =
     let fr : FitsSigned w128 c.upto.result = search rules in
     let e = simp to_z-of_z at c.upto.ensures in
     let r = c.requires in
-    simp to_z-of_z (room_upto c.in_ok-room.room c.args.swap.now.a c.upto.result r.based.base r.pair c.in_ok-room.ensures.room r.wanted e.high e.within e.greatest)
+    simp to_z-of_z (room_upto c.in_ok-room.room c.args.swap.now.a c.upto.result r.based.base r.pair
+    c.in_ok-room.ensures.room r.wanted e.high e.within e.greatest)

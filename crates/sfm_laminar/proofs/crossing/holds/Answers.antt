@@ -9,7 +9,9 @@ loop-e-preserved c = below_more _ _ c.loop-e.invariant (c.lists.ensures.0 c.if-n
 
 pub returns : goal.returns
 returns c = (
-  (λ t e (i, lt, is). subst (λ (d : ℕ). Contains c.args.a.now d) (sym (get_or_default c.args.b.now i e 0 lt) ∙ is) (c.loop-e.invariant i (omega (arith, lt, c.loop-e-test.false)))),
+  (λ t e (i, lt, is). subst (λ (d : ℕ). Contains c.args.a.now d)
+      (sym (get_or_default c.args.b.now i e 0 lt) ∙ is)
+      (c.loop-e.invariant i (omega (arith, lt, c.loop-e-test.false)))),
   (λ all. refl),
 )
 
@@ -19,5 +21,7 @@ returns-then-not-lists c =
     let k = c.loop-e.e-index in
     let d = get_or b k 0 in (
       (λ t. absurd (false≢true t)),
-      (λ all. absurd (both_ways c.lists.result c.if-not-lists.true (c.lists.ensures.1 (all d (k, c.loop-e-test.true, get_or_default b k d 0 c.loop-e-test.true))))),
+      (λ all. absurd (both_ways c.lists.result c.if-not-lists.true
+          (c.lists.ensures.1
+          (all d (k, c.loop-e-test.true, get_or_default b k d 0 c.loop-e-test.true))))),
     )

@@ -5,10 +5,13 @@ use Rattle.std.proofs.lemmas.List.{get_or_default}
 use Rattle.sfm_laminar.proofs.crossing.share.Goals as goal
 
 pub loop-e-preserved : goal.loop-e-preserved
-loop-e-preserved c = below_more _ _ c.loop-e.invariant (λ h. both_ways c.lists.result c.if-lists.false (c.lists.ensures.1 h))
+loop-e-preserved c = below_more _ _ c.loop-e.invariant
+    (λ h. both_ways c.lists.result c.if-lists.false (c.lists.ensures.1 h))
 
 pub returns : goal.returns
 returns c = (
   (λ t. absurd (false≢true t)),
-  (λ (e, (i, lt, is), cb). absurd (c.loop-e.invariant i (omega (arith, lt, c.loop-e-test.false)) (subst (λ (d : ℕ). Contains c.args.b.now d) (sym (sym (get_or_default c.args.a.now i e 0 lt) ∙ is)) cb))),
+  (λ (e, (i, lt, is), cb). absurd (c.loop-e.invariant i (omega (arith, lt, c.loop-e-test.false))
+      (subst (λ (d : ℕ). Contains c.args.b.now d)
+      (sym (sym (get_or_default c.args.a.now i e 0 lt) ∙ is)) cb))),
 )

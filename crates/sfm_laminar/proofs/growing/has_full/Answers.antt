@@ -26,7 +26,12 @@ loop-i-preserved c =
     let n = get_or counts (get_or numbers i 0) 0 in
     let fc : FitsSigned w128 c.cap.result = record { sfits = c.cap.type_inv } in
     let bits = count_bits n (c.type_inv.counts (get_or numbers i 0)) in
-    let cap : c.cap.result ≡ (group_at groups (get_or numbers i 0)).cap = c.cap.ensures ∙ ap (λ h. h.cap) c.group.ensures.group in
+    let cap : c.cap.result ≡ (group_at groups (get_or numbers i 0)).cap = c.cap.ensures
+    ∙ ap (λ h. h.cap) c.group.ensures.group in
     let t = simp to_z-of_z at c.if-counts-i.false in
-    let here : (group_at groups (get_or numbers i 0)).cap ≤ℤ pos n → ⊥ = (λ full. omega (arith, ints, t, bits, cap, full)) in
-    λ p l full. ⊎_elim (λ less. c.loop-i.invariant p less full) (λ ge. let same : p ≡ i = omega (arith, l, ge) in here (subst (λ z. (group_at groups (get_or numbers z 0)).cap ≤ℤ pos (get_or counts (get_or numbers z 0) 0)) same full)) (cases_lt p i)
+    let here : (group_at groups (get_or numbers i 0)).cap ≤ℤ pos n
+    → ⊥ = (λ full. omega (arith, ints, t, bits, cap, full)) in
+    λ p l full. ⊎_elim (λ less. c.loop-i.invariant p less full)
+    (λ ge. let same : p ≡ i = omega (arith, l, ge) in here
+    (subst (λ z. (group_at groups (get_or numbers z 0)).cap ≤ℤ pos
+    (get_or counts (get_or numbers z 0) 0)) same full)) (cases_lt p i)

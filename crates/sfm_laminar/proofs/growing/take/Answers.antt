@@ -13,10 +13,14 @@ returns-then-has_full-clause-taken c =
     let groups = c.args.groups.now in
     let t = c.args.t.now in
     let held = (c.of-holders.ensures _ _ r.indexed).exact in
-    step-blocked k groups c.args.s.now t c.args.e (full_blocked k groups t c.args.counts.now c.args.e c.of-holders.result.now r.grouped r.places r.counted held (c.has_full.ensures.0 c.if-has_full.true))
+    step-blocked k groups c.args.s.now t c.args.e
+    (full_blocked k groups t c.args.counts.now c.args.e c.of-holders.result.now r.grouped
+    r.places r.counted held (c.has_full.ensures.0 c.if-has_full.true))
 
 pub raise-requires-clause-numbers : goal.raise-requires-clause-numbers
-raise-requires-clause-numbers c = λ p lp. let b = (c.of-holders.ensures _ _ c.requires.indexed).below p lp in omega (arith, b, c.requires.counted.places)
+raise-requires-clause-numbers c =
+    λ p lp. let b = (c.of-holders.ensures _ _ c.requires.indexed).below p
+    lp in omega (arith, b, c.requires.counted.places)
 
 pub raise-requires-clause-ascending : goal.raise-requires-clause-ascending
 raise-requires-clause-ascending c = (c.of-holders.ensures _ _ c.requires.indexed).ascending
@@ -25,7 +29,8 @@ pub raise-requires-clause-few : goal.raise-requires-clause-few
 raise-requires-clause-few c =
     let r = c.requires in
     let held = (c.of-holders.ensures _ _ r.indexed).exact in
-    λ i. let m = counts-few _ _ _ _ _ _ r.grouped r.places r.counted held i in omega (arith, m, r.few)
+    λ i. let m = counts-few _ _ _ _ _ _ r.grouped r.places r.counted held
+    i in omega (arith, m, r.few)
 
 pub returns-clause-taken : goal.returns-clause-taken
 returns-clause-taken c =
@@ -34,11 +39,16 @@ returns-clause-taken c =
     let groups = c.args.groups.now in
     let t = c.args.t.now in
     let held = (c.of-holders.ensures k groups r.indexed).exact in
-    let free = none_free k groups t c.args.counts.now c.args.e c.of-holders.result.now r.grouped r.places r.counted held (λ full. both_ways c.has_full.result c.if-has_full.false (c.has_full.ensures.1 full)) in
-    c.insert.ensures ∙ step-taken k groups c.args.s.now t c.args.e (sym c.contains.ensures ∙ c.if-not-contains.false) free
+    let free = none_free k groups t c.args.counts.now c.args.e c.of-holders.result.now r.grouped
+    r.places r.counted held (λ full. both_ways c.has_full.result c.if-has_full.false
+    (c.has_full.ensures.1 full)) in
+    c.insert.ensures ∙ step-taken k groups c.args.s.now t c.args.e
+    (sym c.contains.ensures ∙ c.if-not-contains.false) free
 
 pub returns-clause-counted : goal.returns-clause-counted
 returns-clause-counted c =
     let r = c.requires in
     let holders = c.of-holders.ensures _ _ r.indexed in
-    rw (c.insert.ensures, c.raise.ensures) (counts-more _ _ _ _ _ _ r.grouped r.places r.counted holders.exact holders.ascending r.place r.out)
+    rw (c.insert.ensures, c.raise.ensures)
+    (counts-more _ _ _ _ _ _ r.grouped r.places r.counted holders.exact holders.ascending
+    r.place r.out)

@@ -8,8 +8,10 @@ use Rattle.sfm_laminar.proofs.Fits.{bound_small, bound_fits}
 use Rattle.sfm_laminar.proofs.number.bound.Goals as goal
 use Rattle.sfm_laminar.proofs.number.bound.Goals.{After-min}
 
--- what is multiplied is the cap, or the number of members where that is less, and what comes of it is small
-multiplied : (c : After-min) → let g = c.args.group.now in (c.min.result ≡ int_min g.cap (pos (length g.members))) × IsAtMost (10 ^ 27) (c.args.most *ℤ c.min.result)
+-- what is multiplied is the cap, or the number of members where that is less, and what comes of it
+-- is small
+multiplied : (c : After-min) → let g = c.args.group.now in (c.min.result ≡ int_min g.cap
+    (pos (length g.members))) × IsAtMost (10 ^ 27) (c.args.most *ℤ c.min.result)
 multiplied c =
     let g = c.args.group.now in
     let r = c.requires in
@@ -20,7 +22,10 @@ multiplied c =
     let cap = r.sound.low in
     let f : Fits w64 (length c.members.result.now) = omega (arith, few, l) in
     let bits = count_bits (length c.members.result.now) f in
-    let is : c.min.result ≡ int_min g.cap (pos (length g.members)) = v ∙ ap (λ z. int_min c.cap.result z) bits ∙ ap (λ z. int_min z (pos (length c.members.result.now))) c.cap.ensures ∙ ap (λ n. int_min g.cap (pos n)) l in
+    let is : c.min.result ≡ int_min g.cap (pos (length g.members)) = v
+    ∙ ap (λ z. int_min c.cap.result z) bits
+    ∙ ap (λ z. int_min z (pos (length c.members.result.now))) c.cap.ensures
+    ∙ ap (λ n. int_min g.cap (pos n)) l in
     let low : pos 0 ≤ℤ c.min.result = omega (arith, ints, clamps, is, cap) in
     let high : c.min.result ≤ℤ pos 256 = omega (arith, ints, clamps, is, few) in
     (is, bound_small c.args.most c.min.result r.low r.high low high)

@@ -10,8 +10,10 @@ overflow_add-sum c =
     let x = c.args.x.now in
     let es = c.args.members.now in
     let i = c.loop-e.e-index in
-    let lt : get_or es i 0 < length x = All-get_or (λ e. e < length x) es i 0 c.loop-e-test.true c.requires.below in
-    let a : IsEntry (get_or x (get_or es i 0) (pos 0)) = All-get_or IsEntry x (get_or es i 0) (pos 0) lt c.requires.small in
+    let lt : get_or es i 0 < length x = All-get_or (λ e. e < length x) es i 0 c.loop-e-test.true
+    c.requires.below in
+    let a : IsEntry (get_or x (get_or es i 0) (pos 0)) = All-get_or IsEntry x (get_or es i 0)
+    (pos 0) lt c.requires.small in
     let inv = c.loop-e.invariant in
     let few = c.requires.few in
     omega (arith, ints, inv.low, inv.high)
@@ -21,8 +23,10 @@ loop-e-preserved c =
     let x = c.args.x.now in
     let es = c.args.members.now in
     let i = c.loop-e.e-index in
-    let lt : get_or es i 0 < length x = All-get_or (λ e. e < length x) es i 0 c.loop-e-test.true c.requires.below in
-    let a : IsEntry (get_or x (get_or es i 0) (pos 0)) = All-get_or IsEntry x (get_or es i 0) (pos 0) lt c.requires.small in
+    let lt : get_or es i 0 < length x = All-get_or (λ e. e < length x) es i 0 c.loop-e-test.true
+    c.requires.below in
+    let a : IsEntry (get_or x (get_or es i 0) (pos 0)) = All-get_or IsEntry x (get_or es i 0)
+    (pos 0) lt c.requires.small in
     let step = sum_listed-drop es x i c.loop-e-test.true in
     let inv = c.loop-e.invariant in
     record {

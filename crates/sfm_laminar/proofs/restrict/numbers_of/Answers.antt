@@ -15,16 +15,24 @@ loop-e-preserved c =
     let e = c.loop-e.e in
     let inv = c.loop-e.invariant in
     let item : ℕ → ℕ = λ d. size (take d keep) in
-    let one : c.from-count.result ≡ cond (get_or keep e false) 1 0 = c.from-count.ensures ∙ (ap bool_byte c.contains.ensures ∙ byte (get_or keep e false)) in
+    let one : c.from-count.result ≡ cond (get_or keep e false) 1 0 = c.from-count.ensures
+    ∙ (ap bool_byte c.contains.ensures ∙ byte (get_or keep e false)) in
     let next = size-take keep e in
-    let count : c.loop-e.count + c.from-count.result ≡ size (take (e + 1) keep) = rw add-one (omega (arith, one, next, inv.counted)) in
+    let count : c.loop-e.count + c.from-count.result ≡ size (take (e + 1) keep) = rw add-one
+    (omega (arith, one, next, inv.counted)) in
     record {
-      made = subst (λ ns. AreMade ℕ 0 item (e + 1) ns) (sym c.in_ok-push.ensures.items) (made_more ℕ 0 item e c.loop-e.numbers.items c.loop-e.count inv.made inv.counted);
+      made = subst (λ ns. AreMade ℕ 0 item (e + 1) ns) (sym c.in_ok-push.ensures.items)
+          (made_more ℕ 0 item e c.loop-e.numbers.items c.loop-e.count inv.made inv.counted);
       counted = count;
     }
 
 pub returns : goal.returns
 returns c =
     let inv = c.loop-e.invariant in
-    let n : c.loop-e.e ≡ length c.args.keep.now = omega (arith, c.loop-e-test.false, c.len-e-end.ensures, c.loop-e.auto.e-end) in
+    let n : c.loop-e.e ≡ length c.args.keep.now = omega (
+      arith,
+      c.loop-e-test.false,
+      c.len-e-end.ensures,
+      c.loop-e.auto.e-end,
+    ) in
     record { places = inv.made.places ∙ n; each = λ e lt. inv.made.each e (omega (arith, lt, n)) }

@@ -8,7 +8,9 @@ returns c =
     record {
       places = put.places ∙ c.requires.sized;
       exact = λ v lt. (
-        (λ h. let more : pos 0 <ℤ get_or c.args.x.now v (pos 0) = (put.over v lt).0 h in omega (arith, ints, more)),
-        (λ some. let more : pos 0 <ℤ get_or c.args.x.now v (pos 0) = omega (arith, ints, some) in (put.over v lt).1 more),
+        (λ h. let more : pos 0 <ℤ get_or c.args.x.now v (pos 0) = (put.over v lt).0
+            h in omega (arith, ints, more)),
+        (λ some. let more : pos 0 <ℤ get_or c.args.x.now v
+            (pos 0) = omega (arith, ints, some) in (put.over v lt).1 more),
       );
     }

@@ -7,7 +7,8 @@ use Rattle.sfm_law.proofs.laws.chain_of_slopes.Goals as goal
 pub returns : goal.returns
 returns g c =
     let r = c.requires in
-    let fit = meanings-terms c.args._n g.T.Term.places g.T.Term.value_of g.met.T.Term.family g.met.T.Term.submodular c.args._terms.now r.placed in
+    let fit = meanings-terms c.args._n g.T.Term.places g.T.Term.value_of g.met.T.Term.family
+    g.met.T.Term.submodular c.args._terms.now r.placed in
     record {
       nested = slopes_nest _ c.args._n c.args._sizes.now fit r.sized r.positive;
       exact = chain_exact _ c.args._n c.args._sizes.now fit r.sized r.positive;

@@ -8,7 +8,8 @@ use Rattle.sfm_law.proofs.moves.exchange.Goals as goal
 pub overflow_sub-x : goal.overflow_sub-x
 overflow_sub-x g c =
     let r = c.requires in
-    let (fu, fv, fs, fd) = exchange_fits c.args.x.now c.args.u c.args.v c.args.a r.small r.from r.onto r.low r.high in
+    let (fu, fv, fs, fd) = exchange_fits c.args.x.now c.args.u c.args.v c.args.a r.small r.from
+    r.onto r.low r.high in
     let fa : FitsSigned w128 c.args.a = c.ranges.a in
     let ne : c.args.v ≢ c.args.u = λ e. r.apart (sym e) in
     rw get_or-set_other (simp to_z-of_z fd)
@@ -16,7 +17,8 @@ overflow_sub-x g c =
 pub returns-clause-moved : goal.returns-clause-moved
 returns-clause-moved g c =
     let r = c.requires in
-    let (fu, fv, fs, fd) = exchange_fits c.args.x.now c.args.u c.args.v c.args.a r.small r.from r.onto r.low r.high in
+    let (fu, fv, fs, fd) = exchange_fits c.args.x.now c.args.u c.args.v c.args.a r.small r.from
+    r.onto r.low r.high in
     let fa : FitsSigned w128 c.args.a = c.ranges.a in
     let ne : c.args.v ≢ c.args.u = λ e. r.apart (sym e) in
     rw get_or-set_other (simp to_z-of_z)
@@ -24,4 +26,5 @@ returns-clause-moved g c =
 pub returns-clause-base : goal.returns-clause-base
 returns-clause-base g c =
     let r = c.requires in
-    rw (returns-clause-moved g c) (base_within_room c.args.a r.base r.from r.onto r.apart r.low r.room)
+    rw (returns-clause-moved g c)
+    (base_within_room c.args.a r.base r.from r.onto r.apart r.low r.room)

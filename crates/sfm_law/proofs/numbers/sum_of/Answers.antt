@@ -9,7 +9,8 @@ pub overflow_add-sum : goal.overflow_add-sum
 overflow_add-sum c =
     let x = c.args.x.now in
     let i = c.loop-a.a-index in
-    let a : IsEntry (get_or x i (pos 0)) = All-get_or IsEntry x i (pos 0) c.loop-a-test.true c.requires.small in
+    let a : IsEntry (get_or x i (pos 0)) = All-get_or IsEntry x i (pos 0) c.loop-a-test.true
+    c.requires.small in
     let inv = c.loop-a.invariant in
     omega (arith, ints, inv.low, inv.high)
 
@@ -17,7 +18,8 @@ pub loop-a-preserved : goal.loop-a-preserved
 loop-a-preserved c =
     let x = c.args.x.now in
     let i = c.loop-a.a-index in
-    let a : IsEntry (get_or x i (pos 0)) = All-get_or IsEntry x i (pos 0) c.loop-a-test.true c.requires.small in
+    let a : IsEntry (get_or x i (pos 0)) = All-get_or IsEntry x i (pos 0) c.loop-a-test.true
+    c.requires.small in
     let step = total_of-drop x i c.loop-a-test.true in
     let inv = c.loop-a.invariant in
     record {

@@ -22,8 +22,10 @@ loop-a-preserved c =
     let fa : FitsSigned w128 (get_or xs i (pos 0)) = search rules in
     let (b, t) = magnitudes-at xs i in
     let bound : magnitudes xs ≤ℤ pos (10 ^ 36) = c.requires in
-    let fits : FitsSigned w128 (pos 0 -ℤ to_z w128 (of_z w128 (get_or xs i (pos 0)))) = omega (arith, ints, fa, b.low, b.high, t, bound) in
-    let same : to_z w128 (of_z w128 (pos 0 -ℤ to_z w128 (of_z w128 (get_or xs i (pos 0))))) ≡ neg_ℤ (get_or xs i (pos 0)) = omega (arith, ints, fa, fits) in
+    let fits : FitsSigned w128 (pos 0 -ℤ to_z w128 (of_z w128 (get_or xs i (pos 0)))) =
+    omega (arith, ints, fa, b.low, b.high, t, bound) in
+    let same : to_z w128 (of_z w128 (pos 0 -ℤ to_z w128 (of_z w128 (get_or xs i (pos 0))))) ≡ neg_ℤ
+    (get_or xs i (pos 0)) = omega (arith, ints, fa, fits) in
     let more = map_more neg_ℤ xs i (pos 0) c.loop-a-test.true in
     let pushed = rw same at c.in_ok-push.ensures.items in
     pushed ∙ (ap (λ ys. ys ++ neg_ℤ (get_or xs i (pos 0)) ∷ []) c.loop-a.invariant ∙ sym more)

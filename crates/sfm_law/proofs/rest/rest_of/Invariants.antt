@@ -5,4 +5,5 @@ use Rattle.sfm_law.specs.Rest.{IsRest}
 use Rattle.sfm_law.proofs.rest.rest_of.Given as goal
 
 abbrev pub invariant-loop-i : goal.invariant-loop-i
-invariant-loop-i g l = let t = g.T.Term in IsRest (meanings t.places t.value_of (take l.i l.terms)) l.shift l.bases l.z.items
+invariant-loop-i g l = let t = g.T.Term in IsRest (meanings t.places t.value_of (take l.i l.terms))
+    l.shift l.bases l.z.items

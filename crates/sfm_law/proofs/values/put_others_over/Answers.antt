@@ -10,4 +10,6 @@ pub returns-clause-over : goal.returns-clause-over
 returns-clause-over c = λ v kv.
     let r = c.requires in
     let p = c.put_over.ensures in
-    rw c.remove.ensures (others_in (λ k. IsOver c.args.bar (get_or c.args.x.now k (pos 0))) c.put_over.new.to c.args.u v (omega (arith, p.places, r.room_for_answer, r.from)) (p.over v kv))
+    rw c.remove.ensures (others_in (λ k. IsOver c.args.bar (get_or c.args.x.now k (pos 0)))
+    c.put_over.new.to c.args.u v (omega (arith, p.places, r.room_for_answer, r.from))
+    (p.over v kv))

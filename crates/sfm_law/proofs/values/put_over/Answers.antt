@@ -12,7 +12,8 @@ loop-v-preserved c =
     let fa = fits_at x i c.loop-v-test.true c.requires.small in
     let over = simp to_z-of_z at c.is_over.ensures in
     let inv = c.loop-v.invariant in
-    rw c.put.ensures (put_more (λ k. IsOver c.args.bar (get_or x k (pos 0))) (length x) c.loop-v.to i c.is_over.result inv.places inv.exact c.loop-v-test.true over)
+    rw c.put.ensures (put_more (λ k. IsOver c.args.bar (get_or x k (pos 0))) (length x) c.loop-v.to
+    i c.is_over.result inv.places inv.exact c.loop-v-test.true over)
 
 pub returns-clause-over : goal.returns-clause-over
 returns-clause-over c = λ v kv. c.loop-v.invariant.exact v (omega (arith, kv, c.loop-v-test.false))

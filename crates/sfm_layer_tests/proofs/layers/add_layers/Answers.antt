@@ -6,4 +6,5 @@ pub add_layers-requires : goal.add_layers-requires
 add_layers-requires c =
     let told = c.has_room.ensures in
     let yes = c.if-has_room.true in
-    three-fit _ c.args.instance.now.terms c.args.layers c.requires (told.names yes) (told.bounded yes) (told.room yes)
+    three-fit _ c.args.instance.now.terms c.args.layers c.requires (told.names yes)
+    (told.bounded yes) (told.room yes)

@@ -7,5 +7,6 @@ use Rattle.sfm_layer_tests.proofs.layers.made.Goals as goal
 
 pub new-requires-clause-small : goal.new-requires-clause-small
 new-requires-clause-small c = λ r is.
-    let most = greatest-most (IsIndependentIn c.args.rank) c.args.weights.now _ r (λ k d l. (c.requires.weights k d l).0) is in
+    let most = greatest-most (IsIndependentIn c.args.rank) c.args.weights.now _ r
+    (λ k d l. (c.requires.weights k d l).0) is in
     rw (c.requires.number, once r) (omega (arith, ints, most, c.requires.small))

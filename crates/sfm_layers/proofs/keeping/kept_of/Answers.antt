@@ -14,11 +14,16 @@ loop-j-preserved g c =
     elim c.if-contains.branch [
       | then-contains+in_ok-push w ↦ (
           let x = w.index-items-j.result in
-          let more = kept-more keep items j x c.requires (sym c.contains.ensures ∙ w.if-contains.true) in
-          let one = ap (λ y. kept (take j keep) (take j items) ++ y ∷ []) (sym w.index-items-j.is) in
-          rw add-one (ap (λ v. v.items) w.list-is ∙ (w.in_ok-push.ensures.items ∙ (ap (λ l. l ++ x ∷ []) c.loop-j.invariant ∙ sym (more ∙ one)))))
+          let more = kept-more keep items j x c.requires
+          (sym c.contains.ensures ∙ w.if-contains.true) in
+          let one = ap (λ y. kept (take j keep) (take j items) ++ y ∷ [])
+          (sym w.index-items-j.is) in
+          rw add-one (ap (λ v. v.items) w.list-is
+          ∙ (w.in_ok-push.ensures.items
+          ∙ (ap (λ l. l ++ x ∷ []) c.loop-j.invariant ∙ sym (more ∙ one)))))
       | else-contains w ↦ (
-          let same = kept-same keep items j c.requires below (sym c.contains.ensures ∙ w.if-contains.false) in
+          let same = kept-same keep items j c.requires below
+          (sym c.contains.ensures ∙ w.if-contains.false) in
           rw add-one (ap (λ v. v.items) w.list-is ∙ (c.loop-j.invariant ∙ sym same)))
     ]
 
@@ -28,4 +33,5 @@ returns g c =
     let items = c.args.items.now in
     let j = c.loop-j.j in
     let end : length keep ≤ j = omega (arith, c.len-j-end.ensures, c.loop-j-test.false) in
-    c.loop-j.invariant ∙ (ap (λ k. kept k (take j items)) (take_all j keep end) ∙ ap (λ x. kept keep x) (take_all j items (omega (arith, end, c.requires))))
+    c.loop-j.invariant ∙ (ap (λ k. kept k (take j items)) (take_all j keep end)
+    ∙ ap (λ x. kept keep x) (take_all j items (omega (arith, end, c.requires))))

@@ -12,10 +12,14 @@ use Rattle.sfm_level.proofs.levelling.level.Goals as goal
 use Rattle.sfm_level.proofs.levelling.level.Goals.{After-deref}
 
 -- what the bases add up to
-summed : (c : After-deref) → c.in_ok-vector.vector.items ≡ sums_of (meanings kind_places kind_value c.terms-terms.result.now) c.names_len-n.result c.in_ok-bases.bases
+summed : (c : After-deref) → c.in_ok-vector.vector.items ≡ sums_of
+    (meanings kind_places kind_value c.terms-terms.result.now) c.names_len-n.result
+    c.in_ok-bases.bases
 summed c =
     let are = c.in_ok-vector.ensures in
-    sums_only (meanings kind_places kind_value c.terms-terms.result.now) c.names_len-n.result c.in_ok-bases.bases c.in_ok-vector.vector.items (record { places = are.places; exact = are.exact })
+    sums_only (meanings kind_places kind_value c.terms-terms.result.now) c.names_len-n.result
+    c.in_ok-bases.bases c.in_ok-vector.vector.items
+    (record { places = are.places; exact = are.exact })
 
 -- the squares are few
 near : (c : After-deref) → squares c.deref.result.now ≤ℤ pos (11 * 10 ^ 28)
@@ -38,7 +42,8 @@ returns-clause-is_true c =
     = c.squares_of.ensures ∙ ap squares (c.deref.ensures.value ∙ sym c.from_vec.ensures) in
     simp to_z-of_z (rw (← c.terms-terms.ensures.terms, ← c.names_len-n.ensures.len)
     (told_true ts c.names_len-n.result c.in_ok-bases.bases c.from_vec.result c.squares_of.result
-    r.bases r.level (c.from_vec.ensures ∙ summed (goal.at.returns-clause-is_true c).After-deref) sum))
+    r.bases r.level (c.from_vec.ensures ∙ summed (goal.at.returns-clause-is_true c).After-deref)
+    sum))
 
 pub returns-clause-formed : goal.returns-clause-formed
 returns-clause-formed c =

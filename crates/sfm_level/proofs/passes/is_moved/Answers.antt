@@ -16,21 +16,25 @@ use Rattle.sfm_level.proofs.passes.is_moved.Goals.{In-loop-a, then-branch, else-
 
 -- the numbers that are looked at are the sums of the bases
 are_sums : (g : given.Over) (c : In-loop-a g) → let t = g.T.Term in
-    c.deref-a-items.result.now ≡ sums_of (meanings t.places t.value_of c.args.terms.now) c.args.n c.args.graph.now.bases
-are_sums g c = c.deref-a-items.ensures.value ∙ (c.in_ok-z.ensures.items ∙ (c.deref.ensures.value ∙ sums-kept c.requires))
+    c.deref-a-items.result.now ≡ sums_of (meanings t.places t.value_of c.args.terms.now) c.args.n
+    c.args.graph.now.bases
+are_sums g c = c.deref-a-items.ensures.value
+    ∙ (c.in_ok-z.ensures.items ∙ (c.deref.ensures.value ∙ sums-kept c.requires))
 
 -- so each is small
 small : (g : given.Over) (c : In-loop-a g)
     → IsAtMost (10 ^ 15) (get_or c.deref-a-items.result.now c.loop-a.a-index (pos 0))
 small g c =
     let is = are_sums g c in
-    All-get_or (IsAtMost (10 ^ 15)) c.deref-a-items.result.now c.loop-a.a-index (pos 0) c.loop-a-test.true
+    All-get_or (IsAtMost (10 ^ 15)) c.deref-a-items.result.now c.loop-a.a-index (pos 0)
+    c.loop-a-test.true
     (rw is (sums-near c.requires))
 
 pub overflow_add-a : goal.overflow_add-a
 overflow_add-a g c =
     let s = small g (goal.at.overflow_add-a g c).In-loop-a in
-    let fa : FitsSigned w128 (get_or c.deref-a-items.result.now c.loop-a.a-index (pos 0)) = omega (arith, ints, s.low, s.high) in
+    let fa : FitsSigned w128 (get_or c.deref-a-items.result.now c.loop-a.a-index
+    (pos 0)) = omega (arith, ints, s.low, s.high) in
     simp to_z-of_z (omega (arith, ints, s.low, s.high))
 
 pub prove_at-requires-clause-slope : goal.prove_at-requires-clause-slope
@@ -82,7 +86,8 @@ loop-a-preserved g c =
                 let ends = rw (stayed.0, sum) at still.ends in (
                   same ∙ stayed.0,
                   below_more (λ i. (first : ℕ) (steps : List Step)
-                      → Joins ts (pos 1) (even_shift n (f i +ℤ pos 1)) before first steps → ⊥) k stayed.1 ends,
+                      → Joins ts (pos 1) (even_shift n (f i +ℤ pos 1)) before first steps → ⊥) k
+                      stayed.1 ends,
                 )),
           )
     ]
@@ -95,7 +100,8 @@ returns-clause-none g c =
     let n = c.args.n in
     let before = c.args.graph.now.bases in
     let is : c.deref-a-items.result.now ≡ sums_of ts n before
-    = c.deref-a-items.ensures.value ∙ (c.in_ok-z.ensures.items ∙ (c.deref.ensures.value ∙ sums-kept c.requires)) in
+    = c.deref-a-items.ensures.value
+    ∙ (c.in_ok-z.ensures.items ∙ (c.deref.ensures.value ∙ sums-kept c.requires)) in
     let count : length c.deref-a-items.result.now ≡ n
     = ap length is ∙ length-first_values n (base_sum_at ts before) in
     let claimed = c.requires.claimed in

@@ -5,8 +5,8 @@ use Rattle.sfm_level.specs.Sums.{squares_at}
 use Rattle.sfm_level.specs.Levelling.{IsLevelling}
 use Rattle.sfm_level.proofs.passes.is_moved.Given as goal
 
--- the graph is one at bases that are levelled; with a walk the squares of their sum have fallen, and without one the bases
--- have stayed, and no walk joins at the slopes so far
+-- the graph is one at bases that are levelled; with a walk the squares of their sum have fallen,
+-- and without one the bases have stayed, and no walk joins at the slopes so far
 abbrev pub invariant-loop-a : goal.invariant-loop-a
 invariant-loop-a g l =
     let t = g.T.Term in

@@ -12,4 +12,5 @@ invariant-loop-graph g l =
 -- the squares of their sum fall
 abbrev pub decreases-loop-graph : goal.decreases-loop-graph
 decreases-loop-graph g l =
-    let t = g.T.Term in nat_abs (squares_at (meanings t.places t.value_of l.terms) l.n l.graph.bases)
+    let t = g.T.Term in nat_abs (squares_at (meanings t.places t.value_of l.terms) l.n
+    l.graph.bases)

@@ -14,12 +14,15 @@ returns c =
     let form = form_of instance in
     let told = level_of c.in_ok-told.told in
     IfOk-weaker c.write_level.result (λ text. text.items ≡ text_of (level_lines form told))
-    (λ text. IsLevelText instance.lines (meanings kind_places kind_value instance.terms) (length instance.names) text.items)
+    (λ text. IsLevelText instance.lines (meanings kind_places kind_value instance.terms)
+    (length instance.names) text.items)
     (λ text is. record {
       vector = told.vector;
       bases = told.bases;
       are_bases = c.in_ok-told.ensures.is_true.bases;
       sum = c.in_ok-told.ensures.is_true.sum;
       level = c.in_ok-told.ensures.is_true.level;
-      text = is ∙ ap (λ s. text_of (level_lines form (record { squares = s; vector = told.vector; bases = told.bases }))) c.in_ok-told.ensures.is_true.squares;
+      text = is ∙ ap (λ s. text_of (level_lines form
+          (record { squares = s; vector = told.vector; bases = told.bases })))
+          c.in_ok-told.ensures.is_true.squares;
     }) c.write_level.ensures

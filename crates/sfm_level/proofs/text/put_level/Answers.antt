@@ -12,7 +12,8 @@ pub put_numbers-requires : goal.put_numbers-requires
 put_numbers-requires g c = rw c.as_slice.ensures c.requires.vector
 
 pub put_rows-requires-clause-count : goal.put_rows-requires-clause-count
-put_rows-requires-clause-count g c = rows_count c.args.instance.now.terms c.args.level.now.bases c.requires.bases
+put_rows-requires-clause-count g c = rows_count c.args.instance.now.terms c.args.level.now.bases
+    c.requires.bases
 
 pub put_rows-requires-clause-small : goal.put_rows-requires-clause-small
 put_rows-requires-clause-small g c = c.requires.bases.small

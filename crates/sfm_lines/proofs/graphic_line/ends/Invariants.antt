@@ -7,4 +7,6 @@ use Rattle.sfm_lines.specs.ReadParts.{label_lists_of}
 use Rattle.sfm_lines.proofs.graphic_line.ends.Given as goal
 
 abbrev pub invariant-loop-element : goal.invariant-loop-element
-invariant-loop-element l = edges_of l.ends.items ≡ map (λ texts. edge_between (map (place_among (texts_of l.names.keys)) texts)) (label_lists_of (take l.element-index l.labels))
+invariant-loop-element l = edges_of l.ends.items ≡ map
+    (λ texts. edge_between (map (place_among (texts_of l.names.keys)) texts))
+    (label_lists_of (take l.element-index l.labels))

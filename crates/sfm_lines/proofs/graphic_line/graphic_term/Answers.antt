@@ -29,15 +29,28 @@ new-requires-clause-low c =
 pub new-requires-clause-given : goal.new-requires-clause-given
 new-requires-clause-given c =
     let small = c.requires.given.small 0 (pos 0) (omega (arith, c.requires.one)) in
-    record { low = omega (arith, ints, small.low, small.high); high = omega (arith, ints, small.low, small.high) }
+    record {
+      low = omega (arith, ints, small.low, small.high);
+      high = omega (arith, ints, small.low, small.high);
+    }
 
 pub new-requires-clause-same_count : goal.new-requires-clause-same_count
 new-requires-clause-same_count c =
     let lists = (parts_of c.args.parts.now).labels in
-    ap length c.deref-2.ensures.value ∙ (sym (length-map c.in_ok-ends.ends.items edge_of) ∙ (ap length (rw c.deref.ensures.value at c.in_ok-ends.ensures) ∙ (length-map (numbers_of lists) edge_between ∙ (length-map lists _ ∙ c.requires.each))))
+    ap length c.deref-2.ensures.value
+    ∙ (sym (length-map c.in_ok-ends.ends.items edge_of)
+    ∙ (ap length (rw c.deref.ensures.value at c.in_ok-ends.ensures)
+    ∙ (length-map (numbers_of lists) edge_between ∙ (length-map lists _ ∙ c.requires.each))))
 
 pub returns : goal.returns
 returns c = record {
   same_places = c.in_ok-graphic.ensures.places;
-  made = of-rank GraphicRank (parts_of c.args.parts.now) c.args.values.now (Graphic c.in_ok-graphic.graphic) c.requires.rank (c.in_ok-graphic.ensures.number ∙ kept-at c.args.values.now 0 (omega (arith, c.requires.one)) c.requires.given.small, c.in_ok-graphic.ensures.ends ∙ (ap edges_of c.deref-2.ensures.value ∙ (rw c.deref.ensures.value at c.in_ok-ends.ensures)));
+  made = of-rank GraphicRank (parts_of c.args.parts.now) c.args.values.now
+      (Graphic c.in_ok-graphic.graphic) c.requires.rank (
+        c.in_ok-graphic.ensures.number ∙ kept-at c.args.values.now 0 (omega (arith, c.requires.one))
+            c.requires.given.small,
+        c.in_ok-graphic.ensures.ends
+            ∙ (ap edges_of c.deref-2.ensures.value
+            ∙ (rw c.deref.ensures.value at c.in_ok-ends.ensures)),
+      );
 }

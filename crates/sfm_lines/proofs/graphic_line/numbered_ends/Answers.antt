@@ -16,8 +16,13 @@ ends-requires-clause-few c =
 pub returns : goal.returns
 returns c =
     let lists = label_lists_of c.args.labels.now in
-    let numbers : List (List ℕ) → List ℕ = λ texts. map (place_among (distinct_of (joined lists))) texts in
-    elim c.ends.result as (λ r. IfOk r (λ v. edges_of v.items ≡ map (λ (texts : List (List ℕ)). edge_between (map (place_among (texts_of c.in_ok-names.names.keys)) texts)) lists) → IfOk r (λ v. edges_of v.items ≡ map edge_between (numbers_of lists))) [
+    let numbers : List (List ℕ) → List ℕ = λ texts. map (place_among (distinct_of (joined lists)))
+    texts in
+    elim c.ends.result as (λ r. IfOk r
+    (λ v. edges_of v.items ≡ map
+    (λ (texts : List (List ℕ)). edge_between
+    (map (place_among (texts_of c.in_ok-names.names.keys)) texts)) lists)
+    → IfOk r (λ v. edges_of v.items ≡ map edge_between (numbers_of lists))) [
       | Ok v ↦ λ h. (rw c.in_ok-names.ensures at h) ∙ sym (map-map edge_between numbers lists)
       | Err e ↦ λ h. h
     ] c.ends.ensures

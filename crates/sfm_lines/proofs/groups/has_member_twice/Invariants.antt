@@ -5,4 +5,5 @@ use Rattle.sfm_lines.specs.TermLines.{StandsTwice}
 use Rattle.sfm_lines.proofs.groups.has_member_twice.Given as goal
 
 abbrev pub invariant-loop-names : goal.invariant-loop-names
-invariant-loop-names l = All (λ names. StandsTwice names → ⊥) (text_lists_of (take l.names-index l.groups))
+invariant-loop-names l = All (λ names. StandsTwice names → ⊥)
+    (text_lists_of (take l.names-index l.groups))

@@ -4,4 +4,5 @@ use Rattle.sfm_lines.proofs.Known.{known-among}
 use Rattle.sfm_lines.proofs.groups.is_known.Goals as goal
 
 pub returns : goal.returns
-returns c = λ texts keys. c.contains.ensures ∙ known-among c.args.text.now c.args.known.now.keys texts keys
+returns c = λ texts keys. c.contains.ensures ∙ known-among c.args.text.now c.args.known.now.keys
+    texts keys

@@ -11,7 +11,10 @@ pub loop-element-preserved : goal.loop-element-preserved
 loop-element-preserved c =
     let before = joined (label_lists_of (take c.loop-element.element-index c.args.labels.now)) in
     let more = c.in_ok-add_names.ensures before c.loop-element.invariant in
-    rw (c.deref.ensures.value, c.element-item.is) at more ∙ ap distinct_of (joined-more (λ (t : Labels). texts_of t.texts.items) c.args.labels.now c.loop-element.element-index _ c.loop-element-test.true)
+    rw (c.deref.ensures.value, c.element-item.is) at more
+    ∙ ap distinct_of (joined-more (λ (t : Labels). texts_of t.texts.items) c.args.labels.now
+    c.loop-element.element-index _ c.loop-element-test.true)
 
 pub returns : goal.returns
-returns c = rw (take_all c.loop-element.element-index c.args.labels.now c.loop-element-test.false) at c.loop-element.invariant
+returns c = rw (take_all c.loop-element.element-index c.args.labels.now c.loop-element-test.false)
+    at c.loop-element.invariant

@@ -9,7 +9,9 @@ use Rattle.sfm_lines.proofs.laminar_line.group_parts.Goals as goal
 pub returns-then-not-branch : goal.returns-then-not-branch
 returns-then-not-branch c = λ elements groups h.
     let rest = c.in-Some.rest.now in
-    let each = each-cut (text_lists_of c.args.pieces.now) (texts_of c.in-Some.elements.now.now) (text_lists_of rest) elements groups (first-lists c.args.pieces.now c.in-Some.elements.now rest c.in-Some.ensures.cases) h in
+    let each = each-cut (text_lists_of c.args.pieces.now) (texts_of c.in-Some.elements.now.now)
+    (text_lists_of rest) elements groups
+    (first-lists c.args.pieces.now c.in-Some.elements.now rest c.in-Some.ensures.cases) h in
     (rw c.if-not-branch.true at c.in_ok-add_groups.ensures) groups each
 
 pub returns : goal.returns
@@ -20,7 +22,8 @@ returns c =
       groups,
       record {
         rest = text_lists_of c.in-Some.rest.now;
-        pieces_are = first-lists c.args.pieces.now c.in-Some.elements.now c.in-Some.rest.now c.in-Some.ensures.cases;
+        pieces_are = first-lists c.args.pieces.now c.in-Some.elements.now c.in-Some.rest.now
+            c.in-Some.ensures.cases;
         some = some-texts elements c.if-is_empty.ensures;
         unmarked = c.if-has_separator.ensures;
         each = each;

@@ -10,4 +10,6 @@ pub returns : goal.returns
 returns c =
     IfOk-weaker c.collect.result _ _ (λ w h. lists-cut c.args.tokens.now w.items h)
     (map_from_collect _ c.collect.ensures.ran
-    (YieldsList-from_slice_split _ (λ (t : Bor (List ℕ)). is_semicolon t.now) c.args.tokens.now c.split.ensures.rest c.split.ensures.done c.split.ensures.closure (λ x r q k. search (rules, tests))))
+    (YieldsList-from_slice_split _ (λ (t : Bor (List ℕ)). is_semicolon t.now) c.args.tokens.now
+    c.split.ensures.rest c.split.ensures.done c.split.ensures.closure
+    (λ x r q k. search (rules, tests))))

@@ -6,4 +6,7 @@ use Rattle.sfm_lines.proofs.Ranks.{rank-made}
 use Rattle.sfm_lines.proofs.line_parts.rank_parts.Goals as goal
 
 pub returns : goal.returns
-returns c = IfOk-weaker c.graphic_parts.result _ _ (λ r h. rank-made parts_of (texts_of c.args.tokens.now) (rw c.in_default.is at c.in_ok-parts.ensures) (rw c.in_default-2.is at c.in_ok-parts-2.ensures) (λ parts t. c.requires (parts, t)) r h) c.graphic_parts.ensures
+returns c = IfOk-weaker c.graphic_parts.result _ _
+    (λ r h. rank-made parts_of (texts_of c.args.tokens.now)
+    (rw c.in_default.is at c.in_ok-parts.ensures) (rw c.in_default-2.is at c.in_ok-parts-2.ensures)
+    (λ parts t. c.requires (parts, t)) r h) c.graphic_parts.ensures

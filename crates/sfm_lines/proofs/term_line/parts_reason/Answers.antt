@@ -3,7 +3,8 @@ use Rattle.std.proofs.lemmas.Bool.{false≢true}
 use Rattle.sfm_lines.proofs.term_line.parts_reason.Goals as goal
 
 pub returns-then-not-are_members : goal.returns-then-not-are_members
-returns-then-not-are_members c = inl (rw (c.deref.ensures.value, c.deref-2.ensures.value) at c.if-not-are_members.ensures)
+returns-then-not-are_members c =
+    inl (rw (c.deref.ensures.value, c.deref-2.ensures.value) at c.if-not-are_members.ensures)
 
 pub returns-then-not-are_labels : goal.returns-then-not-are_labels
 returns-then-not-are_labels c = inr (rw c.deref-3.ensures.value at c.if-not-are_labels.ensures)

@@ -5,4 +5,5 @@ use Rattle.sfm_lines.specs.TermLines.{IsNumberFor}
 use Rattle.sfm_lines.proofs.term_line.read_numbers.Given as goal
 
 abbrev pub invariant-loop-text : goal.invariant-loop-text
-invariant-loop-text l = AllZip (IsNumberFor l.instance.version l.word) (texts_of (take l.text-index l.texts)) l.values.items
+invariant-loop-text l = AllZip (IsNumberFor l.instance.version l.word)
+    (texts_of (take l.text-index l.texts)) l.values.items

@@ -34,5 +34,6 @@ pub returns-in_ok-uniform_term-in-UniformRank : goal.returns-in_ok-uniform_term-
 returns-in_ok-uniform_term-in-UniformRank c =
     let parts = parts_of c.args.parts.now in (
       c.in_ok-uniform_term-in-UniformRank.ensures parts c.in-UniformRank.is,
-      λ broken. subst (λ (rank : RankKind). BreaksRankLaw rank parts c.args.values.now) c.in-UniformRank.is broken,
+      λ broken. subst (λ (rank : RankKind). BreaksRankLaw rank parts c.args.values.now)
+          c.in-UniformRank.is broken,
     )

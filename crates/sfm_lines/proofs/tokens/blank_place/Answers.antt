@@ -9,7 +9,10 @@ pub returns : goal.returns
 returns c = place-none is_blank c.args.line.now c.loop-i.i c.loop-i-test.false c.loop-i.invariant
 
 pub returns-then-is_blank_byte : goal.returns-then-is_blank_byte
-returns-then-is_blank_byte c = place-here is_blank c.args.line.now c.loop-i.i 0 c.loop-i-test.true c.loop-i.invariant (sym c.if-is_blank_byte.ensures)
+returns-then-is_blank_byte c = place-here is_blank c.args.line.now c.loop-i.i 0 c.loop-i-test.true
+    c.loop-i.invariant (sym c.if-is_blank_byte.ensures)
 
 pub loop-i-preserved : goal.loop-i-preserved
-loop-i-preserved c = rw (take_more c.args.line.now c.loop-i.i 0 c.loop-i-test.true) (All-push (λ x. is_blank x ≡ false) (take c.loop-i.i c.args.line.now) (get_or c.args.line.now c.loop-i.i 0) c.loop-i.invariant (sym c.if-is_blank_byte.ensures))
+loop-i-preserved c = rw (take_more c.args.line.now c.loop-i.i 0 c.loop-i-test.true)
+    (All-push (λ x. is_blank x ≡ false) (take c.loop-i.i c.args.line.now)
+    (get_or c.args.line.now c.loop-i.i 0) c.loop-i.invariant (sym c.if-is_blank_byte.ensures))

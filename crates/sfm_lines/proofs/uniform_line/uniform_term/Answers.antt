@@ -7,5 +7,11 @@ use Rattle.sfm_lines.proofs.uniform_line.uniform_term.Goals as goal
 
 pub returns : goal.returns
 returns c = λ parts rank.
-    let same : c.in_ok-uniform.uniform.w ∷ c.in_ok-uniform.uniform.cap ∷ [] ≡ c.args.values.now = rw (c.in_ok-uniform.ensures.number, c.in_ok-uniform.ensures.cap) (kept-two c.args.values.now c.requires.two c.requires.given.small) in
-    record { same_places = c.in_ok-uniform.ensures.places; made = of-rank UniformRank parts c.args.values.now (Uniform c.in_ok-uniform.uniform) rank same }
+    let same : c.in_ok-uniform.uniform.w ∷ c.in_ok-uniform.uniform.cap ∷ []
+    ≡ c.args.values.now = rw (c.in_ok-uniform.ensures.number, c.in_ok-uniform.ensures.cap)
+    (kept-two c.args.values.now c.requires.two c.requires.given.small) in
+    record {
+      same_places = c.in_ok-uniform.ensures.places;
+      made = of-rank UniformRank parts c.args.values.now (Uniform c.in_ok-uniform.uniform) rank
+          same;
+    }

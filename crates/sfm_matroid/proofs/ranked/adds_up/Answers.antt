@@ -12,17 +12,25 @@ returns-then-not-are_within-clause-told c =
     let r = c.requires in
     let q = c.args.q in
     let w = c.args.w in
-    let fp : FitsSigned w128 (q *ℤ w) = product_fits _ _ r.factor (given_more _ r.weigh.weight.given) in
-    let within = simp to_z-of_z at (rw (product_is q w c.ranges.q r.weigh.weight.given c.product-most.result c.product-most.ensures) at c.are_within.ensures) in
-    ((λ t. absurd (false≢true t)), (λ h. absurd (both_ways c.are_within.result c.if-not-are_within.true (within.1 h.0))))
+    let fp : FitsSigned w128 (q *ℤ w) = product_fits _ _ r.factor
+    (given_more _ r.weigh.weight.given) in
+    let within = simp to_z-of_z at
+    (rw (product_is q w c.ranges.q r.weigh.weight.given c.product-most.result
+    c.product-most.ensures) at c.are_within.ensures) in (
+      (λ t. absurd (false≢true t)),
+      (λ h. absurd (both_ways c.are_within.result c.if-not-are_within.true (within.1 h.0))),
+    )
 
 pub returns-clause-told : goal.returns-clause-told
 returns-clause-told c =
     let r = c.requires in
     let q = c.args.q in
     let w = c.args.w in
-    let fp : FitsSigned w128 (q *ℤ w) = product_fits _ _ r.factor (given_more _ r.weigh.weight.given) in
-    let within = simp to_z-of_z at (rw (product_is q w c.ranges.q r.weigh.weight.given c.product-most.result c.product-most.ensures) at c.are_within.ensures) in
+    let fp : FitsSigned w128 (q *ℤ w) = product_fits _ _ r.factor
+    (given_more _ r.weigh.weight.given) in
+    let within = simp to_z-of_z at
+    (rw (product_is q w c.ranges.q r.weigh.weight.given c.product-most.result
+    c.product-most.ensures) at c.are_within.ensures) in
     let fq : FitsSigned w128 q = c.ranges.q in
     let small = c.worth-whole.ensures.small in
     let fl : FitsSigned w128 c.worth-whole.result = rank_fits _ small in
@@ -37,7 +45,8 @@ pub returns-clause-amounts : goal.returns-clause-amounts
 returns-clause-amounts c =
     let r = c.requires in
     let told = returns-clause-told c in
-    λ h. within_amounts c.args.x.now (c.args.q *ℤ c.args.w) (product_high c.args.q c.args.w r.factor r.weigh.weight.given) (told.0 h).0
+    λ h. within_amounts c.args.x.now (c.args.q *ℤ c.args.w)
+    (product_high c.args.q c.args.w r.factor r.weigh.weight.given) (told.0 h).0
 
 pub returns-then-not-are_within-clause-amounts : goal.returns-then-not-are_within-clause-amounts
 returns-then-not-are_within-clause-amounts c = λ t. absurd (false≢true t)
@@ -55,7 +64,8 @@ pub product-sum-requires-clause-given : goal.product-sum-requires-clause-given
 product-sum-requires-clause-given c = small_passed c.worth-whole.result c.worth-whole.ensures.small
 
 pub worth-whole-requires : goal.worth-whole-requires
-worth-whole-requires c = let weigh = c.requires.weigh in weigh_passed c.args.w c.args.set.now weigh.weight.given weigh.weight.low weigh.few
+worth-whole-requires c = let weigh = c.requires.weigh in weigh_passed c.args.w c.args.set.now
+    weigh.weight.given weigh.weight.low weigh.few
 
 pub has_sum-requires-clause-few : goal.has_sum-requires-clause-few
 has_sum-requires-clause-few c = c.requires.few

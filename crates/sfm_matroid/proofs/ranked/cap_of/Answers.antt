@@ -15,11 +15,15 @@ product-requires-clause-given c = more_passed c.args.w c.requires.weight.given
 pub returns-clause-low : goal.returns-clause-low
 returns-clause-low c =
     let r = c.requires in
-    let f : FitsSigned w128 (c.args.q *ℤ c.args.w) = product_fits c.args.q c.args.w r.factor (given_more c.args.w r.weight.given) in
-    rw (product_is c.args.q c.args.w c.ranges.q r.weight.given c.product.result c.product.ensures) (simp to_z-of_z (product_low c.args.q c.args.w r.factor r.weight.low))
+    let f : FitsSigned w128 (c.args.q *ℤ c.args.w) = product_fits c.args.q c.args.w r.factor
+    (given_more c.args.w r.weight.given) in
+    rw (product_is c.args.q c.args.w c.ranges.q r.weight.given c.product.result c.product.ensures)
+    (simp to_z-of_z (product_low c.args.q c.args.w r.factor r.weight.low))
 
 pub returns-clause-high : goal.returns-clause-high
 returns-clause-high c =
     let r = c.requires in
-    let f : FitsSigned w128 (c.args.q *ℤ c.args.w) = product_fits c.args.q c.args.w r.factor (given_more c.args.w r.weight.given) in
-    rw (product_is c.args.q c.args.w c.ranges.q r.weight.given c.product.result c.product.ensures) (simp to_z-of_z (product_high c.args.q c.args.w r.factor r.weight.given))
+    let f : FitsSigned w128 (c.args.q *ℤ c.args.w) = product_fits c.args.q c.args.w r.factor
+    (given_more c.args.w r.weight.given) in
+    rw (product_is c.args.q c.args.w c.ranges.q r.weight.given c.product.result c.product.ensures)
+    (simp to_z-of_z (product_high c.args.q c.args.w r.factor r.weight.given))

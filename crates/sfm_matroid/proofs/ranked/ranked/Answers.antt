@@ -9,7 +9,8 @@ overflow_mul-result c =
     let r = c.requires in
     let fw : FitsSigned w128 c.args.w = c.ranges.w in
     let fc : FitsSigned w128 c.args.count = c.ranges.count in
-    simp to_z-of_z (rank_fits (c.args.w *ℤ c.args.count) (rank_small c.args.w c.args.count r.low r.given r.none r.few))
+    simp to_z-of_z (rank_fits (c.args.w *ℤ c.args.count)
+    (rank_small c.args.w c.args.count r.low r.given r.none r.few))
 
 pub returns-clause-small : goal.returns-clause-small
 returns-clause-small c =
@@ -17,7 +18,8 @@ returns-clause-small c =
     let fw : FitsSigned w128 c.args.w = c.ranges.w in
     let fc : FitsSigned w128 c.args.count = c.ranges.count in
     let small = rank_small c.args.w c.args.count r.low r.given r.none r.few in
-    let f : FitsSigned w128 (c.args.w *ℤ c.args.count) = rank_fits (c.args.w *ℤ c.args.count) small in
+    let f : FitsSigned w128 (c.args.w *ℤ c.args.count) = rank_fits (c.args.w *ℤ c.args.count)
+    small in
     simp to_z-of_z small
 
 pub returns-clause-value : goal.returns-clause-value
@@ -25,5 +27,6 @@ returns-clause-value c =
     let r = c.requires in
     let fw : FitsSigned w128 c.args.w = c.ranges.w in
     let fc : FitsSigned w128 c.args.count = c.ranges.count in
-    let f : FitsSigned w128 (c.args.w *ℤ c.args.count) = rank_fits (c.args.w *ℤ c.args.count) (rank_small c.args.w c.args.count r.low r.given r.none r.few) in
+    let f : FitsSigned w128 (c.args.w *ℤ c.args.count) = rank_fits (c.args.w *ℤ c.args.count)
+    (rank_small c.args.w c.args.count r.low r.given r.none r.few) in
     simp to_z-of_z refl

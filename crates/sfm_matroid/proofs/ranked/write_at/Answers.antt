@@ -13,4 +13,5 @@ returns c =
     let t = c.args.set.now in
     let inv = simp to_z-of_z at c.loop-j.invariant in
     let sized : length c.loop-j.x ≡ length t = omega (arith, c.loop-j.auto.x, c.requires) in
-    ext_get_or (pos 0) c.loop-j.x (at_places m t) (sized ∙ sym (at_places-length m t)) (λ j h. inv j (omega (arith, h, sized)))
+    ext_get_or (pos 0) c.loop-j.x (at_places m t) (sized ∙ sym (at_places-length m t))
+    (λ j h. inv j (omega (arith, h, sized)))

@@ -10,6 +10,7 @@ returns c =
     let w = c.args.w in
     let fq : FitsSigned w128 q = c.ranges.q in
     let fw : FitsSigned w128 w = c.ranges.w in
-    let fp : FitsSigned w128 (q *ℤ w) = product_fits _ _ c.requires.factor (given_more _ c.requires.given) in
+    let fp : FitsSigned w128 (q *ℤ w) = product_fits _ _ c.requires.factor
+    (given_more _ c.requires.given) in
     let p = simp to_z-of_z at c.product.ensures in
     simp to_z-of_z at (rw p at c.write_at.ensures)

@@ -10,10 +10,12 @@ use Rattle.sfm_matroid.specs.Amounts.{CanMove}
 use Rattle.sfm_matroid.proofs.Fits.{amount_fits}
 use Rattle.sfm_matroid.proofs.room.moved.Goals as goal
 
-sum_passed : (a b : ℤ) → FitsSigned w128 a → FitsSigned w128 b → FitsSigned w128 (a +ℤ b) → FitsSigned w128 (to_z w128 (of_z w128 a) +ℤ to_z w128 (of_z w128 b))
+sum_passed : (a b : ℤ) → FitsSigned w128 a → FitsSigned w128 b → FitsSigned w128 (a +ℤ b)
+    → FitsSigned w128 (to_z w128 (of_z w128 a) +ℤ to_z w128 (of_z w128 b))
 sum_passed a b fa fb h = simp to_z-of_z h
 
-difference_passed : (a b : ℤ) → FitsSigned w128 a → FitsSigned w128 b → FitsSigned w128 (a -ℤ b) → FitsSigned w128 (to_z w128 (of_z w128 a) -ℤ to_z w128 (of_z w128 b))
+difference_passed : (a b : ℤ) → FitsSigned w128 a → FitsSigned w128 b → FitsSigned w128 (a -ℤ b)
+    → FitsSigned w128 (to_z w128 (of_z w128 a) -ℤ to_z w128 (of_z w128 b))
 difference_passed a b fa fb h = simp to_z-of_z h
 
 -- what u and v have before and after
@@ -27,8 +29,10 @@ record DoFit (x : List ℤ) (u v : ℕ) (a : ℤ) : Type 0 where
 do_fit : (x : List ℤ) (u v : ℕ) (a : ℤ) → CanMove x u v a → DoFit x u v a
 do_fit x u v a r =
     let l = length-exchanged x u v a in
-    let eu = rw (exchanged-first x u v a r.from r.apart) at (All-get_or IsAmount (exchanged x u v a) u (pos 0) (omega (arith, r.from, l)) r.after) in
-    let ev = rw (exchanged-second x u v a r.onto) at (All-get_or IsAmount (exchanged x u v a) v (pos 0) (omega (arith, r.onto, l)) r.after) in
+    let eu = rw (exchanged-first x u v a r.from r.apart) at
+    (All-get_or IsAmount (exchanged x u v a) u (pos 0) (omega (arith, r.from, l)) r.after) in
+    let ev = rw (exchanged-second x u v a r.onto) at
+    (All-get_or IsAmount (exchanged x u v a) v (pos 0) (omega (arith, r.onto, l)) r.after) in
     let xu = All-get_or IsAmount x u (pos 0) r.from r.before in
     let xv = All-get_or IsAmount x v (pos 0) r.onto r.before in
     record {

@@ -17,8 +17,10 @@ returns-clause-limit c =
     let a : IsAmount (get_or x u (pos 0)) = All-get_or IsAmount x u (pos 0) r.pair.from amounts in
     let fc : FitsSigned w128 cap = c.ranges.cap in
     let fa : FitsSigned w128 (get_or x u (pos 0)) = amount_fits _ a in
-    let fv : FitsSigned w128 (get_or x v (pos 0)) = amount_fits _ (All-get_or IsAmount x v (pos 0) r.pair.onto amounts) in
-    let fl : FitsSigned w128 (cap -ℤ get_or x u (pos 0)) = left_fits _ _ r.capped.low r.capped.high a in
+    let fv : FitsSigned w128 (get_or x v (pos 0)) = amount_fits _
+    (All-get_or IsAmount x v (pos 0) r.pair.onto amounts) in
+    let fl : FitsSigned w128 (cap -ℤ get_or x u (pos 0)) = left_fits _ _ r.capped.low r.capped.high
+    a in
     let ff : FitsSigned w128 c.min-limit.result = search rules in
     let fs : FitsSigned w128 c.args.swap.now.a = search rules in
     let fn : FitsSigned w128 c.min.result = search rules in
@@ -26,4 +28,6 @@ returns-clause-limit c =
     simp to_z-of_z (rw least at (simp to_z-of_z at c.min-limit.ensures.value))
 
 pub returns-clause-raise : goal.returns-clause-raise
-returns-clause-raise c = let r = c.requires in let p = r.pair in raise_upto c.args.cap c.args.x.now c.args.swap.now.u c.args.swap.now.v c.args.swap.now.a _ r.capped p.from p.onto p.apart r.wanted (returns-clause-limit c)
+returns-clause-raise c = let r = c.requires in let p = r.pair in raise_upto c.args.cap c.args.x.now
+    c.args.swap.now.u c.args.swap.now.v c.args.swap.now.a _ r.capped p.from p.onto p.apart r.wanted
+    (returns-clause-limit c)

@@ -4,7 +4,11 @@ use Rattle.sfm_assign.specs.Splits.{CanBeMet, Demands}
 use Rattle.sfm_matroid.proofs.splits.can_bring.Goals as goal
 
 pub returns-in-Ok-clause-told : goal.returns-in-Ok-clause-told
-returns-in-Ok-clause-told c = ((λ t. subst (λ (d : Demands). CanBeMet d.demands d.lists d.capacities) c.in-Ok.ensures.brought c.are_met.ensures), (λ h. refl))
+returns-in-Ok-clause-told c = (
+  (λ t. subst (λ (d : Demands). CanBeMet d.demands d.lists d.capacities) c.in-Ok.ensures.brought
+      c.are_met.ensures),
+  (λ h. refl),
+)
 
 pub returns-in-Ok-clause-brought : goal.returns-in-Ok-clause-brought
 returns-in-Ok-clause-brought c = λ t. c.in-Ok.ensures.brought

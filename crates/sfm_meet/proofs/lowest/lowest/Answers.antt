@@ -29,7 +29,11 @@ pub improve-requires-clause-graph : goal.improve-requires-clause-graph
 improve-requires-clause-graph g c =
     let same : c.deref.result.now ≡ replicate c.args.n (pos 0) = search rules in
     rw (same, length-replicate c.args.n (pos 0))
-    (whole_claimed (record { bounded = c.requires; factor = one; exact = c.in_ok-graph.ensures.graph }))
+    (whole_claimed (record {
+      bounded = c.requires;
+      factor = one;
+      exact = c.in_ok-graph.ensures.graph;
+    }))
 
 pub improve-requires-clause-small : goal.improve-requires-clause-small
 improve-requires-clause-small g c =
@@ -47,7 +51,8 @@ returns-clause-small g c =
     let same : shift ≡ replicate c.args.n (pos 0) = search rules in
     let first = c.in_ok-first_bases.first_bases in
     let after = c.improve.new.graph.bases in
-    let small : All (λ x. All (IsAtMost (2 * 10 ^ 18)) x) first = rw c.in_ok-first_bases.ensures.starts
+    let small : All (λ x. All (IsAtMost (2 * 10 ^ 18)) x)
+    first = rw c.in_ok-first_bases.ensures.starts
     (starts_plain_bounded t.places t.value_of t.size_of m.submodular m.bounded _ c.args.terms.now
     c.requires t.start_of (pos 1) (λ x. m.starts_small x (pos 1)) refl) in
     let none = magnitudes_none c.args.n in
@@ -61,5 +66,6 @@ returns-clause-small g c =
 pub returns-clause-proves : goal.returns-clause-proves
 returns-clause-proves g c =
     let same : c.deref.result.now ≡ replicate c.args.n (pos 0) = search rules in
-    let proves = rw (same, length-replicate c.args.n (pos 0)) at c.in_ok-z.ensures.improved.optimal.proves in
+    let proves = rw (same, length-replicate c.args.n (pos 0)) at
+    c.in_ok-z.ensures.improved.optimal.proves in
     rw (c.into_bases.ensures, c.in_ok-members.ensures.bases) proves

@@ -20,8 +20,10 @@ loop-a-preserved c =
     let i = c.loop-a.a-index in
     let fa : FitsSigned w128 (get_or xs i (pos 0)) = search rules in
     let b = All-get_or IsEntry xs i (pos 0) c.loop-a-test.true c.requires in
-    let fits : FitsSigned w128 (pos 0 -ℤ to_z w128 (of_z w128 (get_or xs i (pos 0)))) = omega (arith, ints, fa, b.low, b.high) in
-    let same : to_z w128 (of_z w128 (pos 0 -ℤ to_z w128 (of_z w128 (get_or xs i (pos 0))))) ≡ neg_ℤ (get_or xs i (pos 0)) = omega (arith, ints, fa, fits) in
+    let fits : FitsSigned w128 (pos 0 -ℤ to_z w128 (of_z w128 (get_or xs i (pos 0)))) =
+    omega (arith, ints, fa, b.low, b.high) in
+    let same : to_z w128 (of_z w128 (pos 0 -ℤ to_z w128 (of_z w128 (get_or xs i (pos 0))))) ≡ neg_ℤ
+    (get_or xs i (pos 0)) = omega (arith, ints, fa, fits) in
     let more = map_more neg_ℤ xs i (pos 0) c.loop-a-test.true in
     let pushed = rw same at c.in_ok-push.ensures.items in
     pushed ∙ (ap (λ ys. ys ++ neg_ℤ (get_or xs i (pos 0)) ∷ []) c.loop-a.invariant ∙ sym more)

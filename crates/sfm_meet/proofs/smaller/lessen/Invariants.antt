@@ -5,5 +5,6 @@ use Rattle.sfm_meet.proofs.smaller.lessen.Given as goal
 
 abbrev pub invariant-loop-e : goal.invariant-loop-e
 invariant-loop-e l = (length l.least ≡ length l.initial.least)
-    × ((k : ℕ) → k < l.e → get_or l.least k (pos 0) ≡ int_min (get_or l.initial.least k (pos 0)) (get_or l.other k (pos 0)))
+    × ((k : ℕ) → k < l.e → get_or l.least k (pos 0) ≡ int_min (get_or l.initial.least k (pos 0))
+    (get_or l.other k (pos 0)))
     × ((k : ℕ) → l.e ≤ k → get_or l.least k (pos 0) ≡ get_or l.initial.least k (pos 0))

@@ -13,12 +13,16 @@ use Rattle.sfm_met.proofs.judging.compare.Goals.{After-has_sum}
 use Rattle.sfm_met.proofs.judging.compare.Goals as goal
 
 -- what the common vector adds up to
-added : (c : After-has_sum) → total_of c.as_slice.result.now ≡ sum_over (whole_set (length c.args.left.now.names)) c.args.met.now.common
-added c = ap total_of c.as_slice.ensures ∙ sym (weight-whole (length c.args.left.now.names) c.args.met.now.common c.requires.formed.count)
+added : (c : After-has_sum) → total_of c.as_slice.result.now ≡ sum_over
+    (whole_set (length c.args.left.now.names)) c.args.met.now.common
+added c = ap total_of c.as_slice.ensures
+    ∙ sym (weight-whole (length c.args.left.now.names) c.args.met.now.common
+    c.requires.formed.count)
 
 -- the value is kept whole
 whole : (c : After-has_sum) → to_z w128 (of_z w128 c.args.met.now.value) ≡ c.args.met.now.value
-whole c = let f : FitsSigned w128 c.args.met.now.value = entry_fits _ c.requires.formed.value in simp to_z-of_z
+whole c = let f : FitsSigned w128 c.args.met.now.value = entry_fits _
+    c.requires.formed.value in simp to_z-of_z
 
 pub returns-then-not-has_sum : goal.returns-then-not-has_sum
 returns-then-not-has_sum c =
@@ -42,7 +46,11 @@ returns-then-not-are_same c =
         sum_over (whole_set (length c.args.left.now.names)) c.args.met.now.common,
         c.args.least.now,
         c.requires.split,
-        inr (refl, sym value ∙ sym (c.if-not-has_sum.ensures.0 refl) ∙ sum, λ e. false≢true (c.if-not-are_same.ensures.1 e)),
+        inr (
+          refl,
+          sym value ∙ sym (c.if-not-has_sum.ensures.0 refl) ∙ sum,
+          λ e. false≢true (c.if-not-are_same.ensures.1 e),
+        ),
       ),
     )
 
@@ -50,9 +58,13 @@ pub returns : goal.returns
 returns c =
     let n = length c.args.left.now.names in
     let sum = added (goal.at.returns c).After-has_sum in
-    let value : c.args.met.now.value ≡ sum_over (whole_set n) c.args.met.now.common = sym (whole (goal.at.returns c).After-has_sum) ∙ sym (c.if-not-has_sum.ensures.0 refl) ∙ sum in
+    let value : c.args.met.now.value ≡ sum_over (whole_set n) c.args.met.now.common = sym
+    (whole (goal.at.returns c).After-has_sum) ∙ sym (c.if-not-has_sum.ensures.0 refl) ∙ sum in
     let same : c.args.met.now.members ≡ c.args.least.now = c.if-not-are_same.ensures.0 refl in (
       c.requires.proved,
-      subst (λ (v : ℤ). IsLeastSplit (side_terms c.args.left.now.terms) (side_terms c.args.right.now.terms) n v c.args.met.now.members) (sym value)
-          (subst (λ (s : List Bool). IsLeastSplit (side_terms c.args.left.now.terms) (side_terms c.args.right.now.terms) n (sum_over (whole_set n) c.args.met.now.common) s) (sym same) c.requires.split),
+      subst (λ (v : ℤ). IsLeastSplit (side_terms c.args.left.now.terms)
+          (side_terms c.args.right.now.terms) n v c.args.met.now.members) (sym value)
+          (subst (λ (s : List Bool). IsLeastSplit (side_terms c.args.left.now.terms)
+          (side_terms c.args.right.now.terms) n (sum_over (whole_set n) c.args.met.now.common)
+          s) (sym same) c.requires.split),
     )

@@ -17,34 +17,47 @@ expect-requires c = c.in_ok-right_bases.ensures.read.within
 
 pub returns-in_err-value-clause-refused : goal.returns-in_err-value-clause-refused
 returns-in_err-value-clause-refused c =
-    bad_told (form_of c.args.left.now) (form_of c.args.right.now) c.names_len-names.ensures.named.forms c.args.text.now _ refl refl
-    c.from_residual.result c.in_err-value.field-0.0 c.from_residual.ensures.1 c.in_err-value.ensures.stopped
+    bad_told (form_of c.args.left.now) (form_of c.args.right.now)
+    c.names_len-names.ensures.named.forms c.args.text.now _ refl refl
+    c.from_residual.result c.in_err-value.field-0.0 c.from_residual.ensures.1
+    c.in_err-value.ensures.stopped
 
 pub returns-in_err-left_bases-clause-refused : goal.returns-in_err-left_bases-clause-refused
 returns-in_err-left_bases-clause-refused c =
-    bad_left (form_of c.args.left.now) (form_of c.args.right.now) c.names_len-names.ensures.named.forms c.args.text.now _ refl refl c.in_ok-value.ensures.read
-    c.from_residual-in_err-left_bases.result c.in_err-left_bases.field-0.0 c.from_residual-in_err-left_bases.ensures.1 c.in_err-left_bases.ensures.stopped
+    bad_left (form_of c.args.left.now) (form_of c.args.right.now)
+    c.names_len-names.ensures.named.forms c.args.text.now _ refl refl c.in_ok-value.ensures.read
+    c.from_residual-in_err-left_bases.result c.in_err-left_bases.field-0.0
+    c.from_residual-in_err-left_bases.ensures.1 c.in_err-left_bases.ensures.stopped
 
 pub returns-in_err-right_bases-clause-refused : goal.returns-in_err-right_bases-clause-refused
 returns-in_err-right_bases-clause-refused c =
-    bad_right (form_of c.args.left.now) (form_of c.args.right.now) c.names_len-names.ensures.named.forms c.args.text.now _ refl refl c.in_ok-value.ensures.read
+    bad_right (form_of c.args.left.now) (form_of c.args.right.now)
+    c.names_len-names.ensures.named.forms c.args.text.now _ refl refl c.in_ok-value.ensures.read
     c.in_ok-left_bases.ensures.read
-    c.from_residual-in_err-right_bases.result c.in_err-right_bases.field-0.0 c.from_residual-in_err-right_bases.ensures.1 c.in_err-right_bases.ensures.stopped
+    c.from_residual-in_err-right_bases.result c.in_err-right_bases.field-0.0
+    c.from_residual-in_err-right_bases.ensures.1 c.in_err-right_bases.ensures.stopped
 
 pub returns-in_err-expect-clause-refused : goal.returns-in_err-expect-clause-refused
 returns-in_err-expect-clause-refused c =
-    bad_end (form_of c.args.left.now) (form_of c.args.right.now) c.names_len-names.ensures.named.forms c.args.text.now _ refl refl c.in_ok-value.ensures.read
+    bad_end (form_of c.args.left.now) (form_of c.args.right.now)
+    c.names_len-names.ensures.named.forms c.args.text.now _ refl refl c.in_ok-value.ensures.read
     c.in_ok-left_bases.ensures.read c.in_ok-right_bases.ensures.read
-    c.from_residual-in_err-expect.result c.in_err-expect.field-0.0 c.from_residual-in_err-expect.ensures.1 c.in_err-expect.ensures.stuck
+    c.from_residual-in_err-expect.result c.in_err-expect.field-0.0
+    c.from_residual-in_err-expect.ensures.1 c.in_err-expect.ensures.stuck
 
 pub returns-then-cursor-text-clause-refused : goal.returns-then-cursor-text-clause-refused
 returns-then-cursor-text-clause-refused c =
-    bad_behind (form_of c.args.left.now) (form_of c.args.right.now) c.names_len-names.ensures.named.forms c.args.text.now _ refl refl c.in_ok-value.ensures.read
-    c.in_ok-left_bases.ensures.read c.in_ok-right_bases.ensures.read c.in_ok-expect.ensures.taken c.in_ok-expect.ensures.within c.if-cursor-text.true
+    bad_behind (form_of c.args.left.now) (form_of c.args.right.now)
+    c.names_len-names.ensures.named.forms c.args.text.now _ refl refl c.in_ok-value.ensures.read
+    c.in_ok-left_bases.ensures.read c.in_ok-right_bases.ensures.read c.in_ok-expect.ensures.taken
+    c.in_ok-expect.ensures.within c.if-cursor-text.true
 
 pub returns-clause-read : goal.returns-clause-read
 returns-clause-read c =
-    let f : FitsSigned w128 c.in_ok-value.value = entry_fits c.in_ok-value.value c.in_ok-value.ensures.read.small in
+    let f : FitsSigned w128 c.in_ok-value.value = entry_fits c.in_ok-value.value
+    c.in_ok-value.ensures.read.small in
     rw c.from_vec.ensures (simp to_z-of_z
-    (whole_text (form_of c.args.left.now) (form_of c.args.right.now) c.names_len-names.ensures.named.forms c.args.text.now _ refl refl c.in_ok-value.ensures.read
-    c.in_ok-left_bases.ensures.read c.in_ok-right_bases.ensures.read c.in_ok-expect.ensures.taken c.in_ok-expect.ensures.within c.if-cursor-text.false))
+    (whole_text (form_of c.args.left.now) (form_of c.args.right.now)
+    c.names_len-names.ensures.named.forms c.args.text.now _ refl refl c.in_ok-value.ensures.read
+    c.in_ok-left_bases.ensures.read c.in_ok-right_bases.ensures.read c.in_ok-expect.ensures.taken
+    c.in_ok-expect.ensures.within c.if-cursor-text.false))

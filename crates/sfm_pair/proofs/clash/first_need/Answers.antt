@@ -12,7 +12,8 @@ returns-then-is_need c =
       line_is = slice_get-get_or c.args.lines.now i 0 (rw c.requires c.loop-i-test.true);
       holds = (
         c.index-terms-i.result,
-        slice_get_read terms (length terms) i c.index-terms-i.result refl c.loop-i-test.true c.index-terms-i.is,
+        slice_get_read terms (length terms) i c.index-terms-i.result refl c.loop-i-test.true
+            c.index-terms-i.is,
         c.is_need.ensures.0 c.if-is_need.true,
       );
       before = λ j l h. c.loop-i.invariant j h.0 l

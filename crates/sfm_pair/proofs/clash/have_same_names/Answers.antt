@@ -6,5 +6,6 @@ pub returns : goal.returns
 returns c =
     let same = ext_get_or [] c.args.left.now.names c.args.right.now.names
     (omega (arith, c.names_len-n.ensures.len, c.names_len.ensures.len, c.if-names_len-n.false))
-    (λ k l. c.loop-e.invariant k (omega (arith, l, c.loop-e-test.false, c.names_len-n.ensures.len))) in
+    (λ k l. c.loop-e.invariant k
+    (omega (arith, l, c.loop-e-test.false, c.names_len-n.ensures.len))) in
     (λ t. same, λ s. refl)

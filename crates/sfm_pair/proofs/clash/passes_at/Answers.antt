@@ -18,19 +18,31 @@ not-above a b f = omega (arith, ints, f)
 
 pub overflow_mul-all_size : goal.overflow_mul-all_size
 overflow_mul-all_size c =
-    let t = turn c.args.terms.now c.loop-i.i c.index-terms-i-in-loop-i.result c.index-terms-i-in-loop-i.is c.loop-i-test.true c.requires.small in
-    let fs : FitsSigned w128 c.size.result = omega (arith, ints, t.next, t.low, t.more, t.high, c.size.ensures) in
+    let t = turn c.args.terms.now c.loop-i.i c.index-terms-i-in-loop-i.result
+    c.index-terms-i-in-loop-i.is c.loop-i-test.true c.requires.small in
+    let fs : FitsSigned w128 c.size.result = omega (
+      arith,
+      ints,
+      t.next,
+      t.low,
+      t.more,
+      t.high,
+      c.size.ensures,
+    ) in
     simp to_z-of_z (omega (arith, ints, t.next, t.low, t.more, t.high, c.size.ensures))
 
 -- twice the size of the term is added
-added : (c : After-size) → IsAdded c.args.terms.now c.loop-i.i c.args.size (to_z w128 c.loop-i.all_size-bits) c.size.result
+added : (c : After-size) → IsAdded c.args.terms.now c.loop-i.i c.args.size
+    (to_z w128 c.loop-i.all_size-bits) c.size.result
 added c =
     let terms = c.args.terms.now in
     let i = c.loop-i.i in
     let term = c.index-terms-i-in-loop-i.result in
     let fa : FitsSigned w128 c.args.size = c.ranges.size in
     let t = turn terms i term c.index-terms-i-in-loop-i.is c.loop-i-test.true c.requires.small in
-    add-size terms i term c.args.size (to_z w128 c.loop-i.all_size-bits) c.size.result t c.size.ensures (simp to_z-of_z at c.loop-i.invariant.sizes) c.requires.low c.loop-i.invariant.small
+    add-size terms i term c.args.size (to_z w128 c.loop-i.all_size-bits) c.size.result t
+    c.size.ensures (simp to_z-of_z at c.loop-i.invariant.sizes) c.requires.low
+    c.loop-i.invariant.small
 
 pub overflow_add-all_size : goal.overflow_add-all_size
 overflow_add-all_size c =
@@ -50,20 +62,24 @@ returns-then-all_places-gt-MOST_PLACES c =
     let fs = a.fits in
     let fd = a.double in
     let sum = a.sum in
-    let placed = add-places terms i c.index-terms-i.result c.args.places c.loop-i.all_places (length c.elements.result.now)
-    (step terms i c.index-terms-i.result c.index-terms-i.is c.loop-i-test.true) (ap length c.elements.ensures) inv.places in
+    let placed = add-places terms i c.index-terms-i.result c.args.places c.loop-i.all_places
+    (length c.elements.result.now)
+    (step terms i c.index-terms-i.result c.index-terms-i.is c.loop-i-test.true)
+    (ap length c.elements.ensures) inv.places in
     let over : IsOver c.args.places c.args.size terms i =
     elim c.then-all_places-gt-MOST_PLACES.branch [
       | then-all_places-gt-MOST_PLACES-via-then-all_places-gt-MOST_PLACES w ↦
           inl (subst (λ z. 16384 < z) placed w.if-all_places-gt-MOST_PLACES.true)
-      | then-all_places-gt-MOST_PLACES-via-else-all_places-gt-MOST_PLACES+then-all_size-gt-MOST_SIZE w ↦
+      | then-all_places-gt-MOST_PLACES-via-else-all_places-gt-MOST_PLACES+then-all_size-gt-MOST_SIZE
+          w ↦
           inr (above _ _ _ (simp to_z-of_z at w.if-all_size-gt-MOST_SIZE.true) a.is)
     ] in
     record {
       i = i;
       line_is = slice_get-get_or c.args.lines.now i 0 (rw c.requires.counted c.loop-i-test.true);
       holds = over;
-      before = λ j l h. not-over c.args.places c.args.size terms i j (rw (← inv.places) inv.few) (rw (← so_far) inv.small) l h;
+      before = λ j l h. not-over c.args.places c.args.size terms i j (rw (← inv.places) inv.few)
+          (rw (← so_far) inv.small) l h;
     }
 
 pub loop-i-preserved : goal.loop-i-preserved
@@ -77,8 +93,10 @@ loop-i-preserved c =
     let fd = a.double in
     let sum = a.sum in
     record {
-      places = add-places terms i c.index-terms-i.result c.args.places c.loop-i.all_places (length c.elements.result.now)
-          (step terms i c.index-terms-i.result c.index-terms-i.is c.loop-i-test.true) (ap length c.elements.ensures) inv.places;
+      places = add-places terms i c.index-terms-i.result c.args.places c.loop-i.all_places
+          (length c.elements.result.now)
+          (step terms i c.index-terms-i.result c.index-terms-i.is c.loop-i-test.true)
+          (ap length c.elements.ensures) inv.places;
       sizes = simp to_z-of_z a.is;
       few = c.if-all_places-gt-MOST_PLACES.false;
       small = simp to_z-of_z (not-above _ _ (simp to_z-of_z at c.if-all_size-gt-MOST_SIZE.false));

@@ -3,7 +3,8 @@ use Rattle.sfm_kind.specs.Instance.{support_of}
 use Rattle.sfm_kind.specs.Limits.{total_size_of}
 use Rattle.sfm_pair.proofs.clash.passes_at.Given as goal
 
--- the places and the sizes so far are those beside the terms and of the terms so far, and are not too much
+-- the places and the sizes so far are those beside the terms and of the terms so far, and are not
+-- too much
 abbrev pub invariant-loop-i : goal.invariant-loop-i
 invariant-loop-i l = record {
   places : l.all_places ≡ l.places + support_of (take l.i l.terms);

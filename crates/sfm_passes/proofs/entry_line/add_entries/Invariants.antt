@@ -8,7 +8,8 @@ use Rattle.sfm_passes.proofs.entry_line.add_entries.Given as goal
 
 abbrev pub invariant-loop-token : goal.invariant-loop-token
 invariant-loop-token l = record {
-  due : All (λ token. (entry : List ℕ × List (List ℕ)) × IsLabelToken TransversalRank token entry) (tokens_of l.left);
+  due : All (λ token. (entry : List ℕ × List (List ℕ)) × IsLabelToken TransversalRank token entry)
+      (tokens_of l.left);
   done : List (List ℕ);
   entries : List (List ℕ × List (List ℕ));
   cut : tokens_of l.line ≡ done ++ tokens_of l.left;

@@ -6,7 +6,8 @@ use Rattle.sfm_passes.proofs.SlotCuts.{entry-there}
 use Rattle.sfm_passes.proofs.entry_line.add_entry.Goals as goal
 
 pub unreachable-requires : goal.unreachable-requires
-unreachable-requires c = let (entry, h) = c.requires in c.in_default.ensures entry.0 h.behind h.named
+unreachable-requires c = let (entry, h) = c.requires in c.in_default.ensures entry.0 h.behind
+    h.named
 
 pub returns : goal.returns
 returns c =
@@ -15,5 +16,6 @@ returns c =
       (element, pieces_of 44 behind),
       entry-there c.args.token.now element behind c.in-Some.ensures,
       map-one (λ (t : Bor (List ℕ)). t.now) _ _ c.in-Some.element _ c.in_ok-push.ensures.items refl,
-      map-one (λ (t : Labels). texts_of t.texts.items) _ _ _ _ c.in_ok-push-2.ensures.items c.in_ok-texts.ensures,
+      map-one (λ (t : Labels). texts_of t.texts.items) _ _ _ _ c.in_ok-push-2.ensures.items
+          c.in_ok-texts.ensures,
     )

@@ -7,7 +7,8 @@ use Rattle.sfm_passes.specs.Passes.{AreFewEntries, AreCutEntries}
 use Rattle.sfm_passes.proofs.entry_line.entries_term.Goals as goal
 use Rattle.sfm_passes.proofs.entry_line.entries_term.Goals.{In_ok-add_entries}
 
-cut : (c : In_ok-add_entries) → AreCutEntries c.args.instance.now c.args.number.now c.args.colon.now (tokens_of c.args.entries.now) (parts_of c.add_entries.new.parts)
+cut : (c : In_ok-add_entries) → AreCutEntries c.args.instance.now c.args.number.now c.args.colon.now
+    (tokens_of c.args.entries.now) (parts_of c.add_entries.new.parts)
 cut c =
     let (entries, each, elements, labels) = c.in_ok-add_entries.ensures in
     record {
@@ -27,11 +28,17 @@ add_entries-requires-clause-labels c = ap (λ (p : LineParts). p.labels) c.in_ok
 
 pub add_entries-requires-clause-each : goal.add_entries-requires-clause-each
 add_entries-requires-clause-each c =
-    let few : AreFewEntries c.args.instance.now c.args.number.now c.args.colon.now (tokens_of c.args.entries.now) = rw c.in_default.is at c.in_ok-fault.ensures in
+    let few : AreFewEntries c.args.instance.now c.args.number.now c.args.colon.now
+    (tokens_of c.args.entries.now) = rw c.in_default.is at c.in_ok-fault.ensures in
     few.good.each
 
 pub cut_term-requires-clause-cut : goal.cut_term-requires-clause-cut
-cut_term-requires-clause-cut c = (c.args.colon.now, tokens_of c.args.entries.now, cut (goal.at.cut_term-requires-clause-cut c).In_ok-add_entries)
+cut_term-requires-clause-cut c = (
+  c.args.colon.now,
+  tokens_of c.args.entries.now,
+  cut (goal.at.cut_term-requires-clause-cut c).In_ok-add_entries,
+)
 
 pub returns : goal.returns
-returns c = c.cut_term.ensures c.args.colon.now (tokens_of c.args.entries.now) (cut (goal.at.returns c).In_ok-add_entries)
+returns c = c.cut_term.ensures c.args.colon.now (tokens_of c.args.entries.now)
+    (cut (goal.at.returns c).In_ok-add_entries)

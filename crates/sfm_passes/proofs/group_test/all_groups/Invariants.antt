@@ -5,8 +5,10 @@ use Rattle.sfm_passes.proofs.group_test.all_groups.Given as goal
 
 abbrev pub invariant-loop-left : goal.invariant-loop-left
 invariant-loop-left l = record {
-  some : Any (GroupFails l.instance.version l.test) (pieces_left l.left) → Any (GroupFails l.instance.version l.test) (pieces_left l.groups);
-  all : All (GroupHolds l.instance.version l.test) (pieces_left l.left) → All (GroupHolds l.instance.version l.test) (pieces_left l.groups);
+  some : Any (GroupFails l.instance.version l.test) (pieces_left l.left)
+      → Any (GroupFails l.instance.version l.test) (pieces_left l.groups);
+  all : All (GroupHolds l.instance.version l.test) (pieces_left l.left)
+      → All (GroupHolds l.instance.version l.test) (pieces_left l.groups);
 }
 
 abbrev pub decreases-loop-left : goal.decreases-loop-left

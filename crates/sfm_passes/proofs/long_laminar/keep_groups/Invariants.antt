@@ -5,7 +5,8 @@ use Rattle.sfm_passes.proofs.GroupTerms.{KeptOf}
 use Rattle.sfm_passes.proofs.long_laminar.keep_groups.Given as goal
 
 abbrev pub invariant-loop-left : goal.invariant-loop-left
-invariant-loop-left l = KeptOf l.instance.version (texts_of l.elements) (pieces_left l.groups) (pieces_left l.left) l.kept.items
+invariant-loop-left l = KeptOf l.instance.version (texts_of l.elements) (pieces_left l.groups)
+    (pieces_left l.left) l.kept.items
 
 abbrev pub decreases-loop-left : goal.decreases-loop-left
 decreases-loop-left l = left_length l.left

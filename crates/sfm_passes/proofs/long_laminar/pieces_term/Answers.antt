@@ -20,10 +20,21 @@ with_kept-requires-clause-sound c =
 pub with_kept-requires-clause-below : goal.with_kept-requires-clause-below
 with_kept-requires-clause-below c =
     let (all, each, kept) = rw c.if-branch.false at c.in_ok-keep_groups.ensures in
-    told-below _ _ _ all c.deref.result.now each (c.deref.ensures.value ∙ kept) (length c.args.places.now) (c.requires.named ∙ sym (length-map c.args.elements.now (λ (t : Bor (List ℕ)). t.now)))
+    told-below _ _ _ all c.deref.result.now each (c.deref.ensures.value ∙ kept)
+    (length c.args.places.now) (c.requires.named
+    ∙ sym (length-map c.args.elements.now (λ (t : Bor (List ℕ)). t.now)))
 
 pub returns : goal.returns
 returns c =
     let (all, each, kept) = rw c.if-branch.false at c.in_ok-keep_groups.ensures in
-    let fits : to_z w128 (of_z w128 c.args.w) ≡ c.args.w = omega (arith, ints, c.requires.given.low, c.requires.given.high) in
-    IfOk-weaker c.with_kept.result _ _ (λ r h. pieces-told c.args.instance.now.version (texts_of c.args.elements.now) (pieces_left c.args.groups) all c.deref.result.now c.args.places.now (to_z w128 (of_z w128 c.args.w)) c.args.w each (c.deref.ensures.value ∙ kept) fits r h) c.with_kept.ensures
+    let fits : to_z w128 (of_z w128 c.args.w) ≡ c.args.w = omega (
+      arith,
+      ints,
+      c.requires.given.low,
+      c.requires.given.high,
+    ) in
+    IfOk-weaker c.with_kept.result _ _
+    (λ r h. pieces-told c.args.instance.now.version (texts_of c.args.elements.now)
+    (pieces_left c.args.groups) all c.deref.result.now c.args.places.now
+    (to_z w128 (of_z w128 c.args.w)) c.args.w each (c.deref.ensures.value ∙ kept) fits r h)
+    c.with_kept.ensures

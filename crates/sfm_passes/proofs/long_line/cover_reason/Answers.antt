@@ -14,8 +14,13 @@ returns-then-has_separator_in c =
 
 pub returns-then-not-is_number_of : goal.returns-then-not-is_number_of
 returns-then-not-is_number_of c =
-    cover-number c.args.instance.now (tokens_of c.args.line.now) c.requires.long c.if-has_separator_in.ensures c.in-Some.number.now (tokens_of c.in-Some.elements.now) c.in-Some.ensures.cut c.if-not-is_number_of.ensures
+    cover-number c.args.instance.now (tokens_of c.args.line.now) c.requires.long
+    c.if-has_separator_in.ensures c.in-Some.number.now (tokens_of c.in-Some.elements.now)
+    c.in-Some.ensures.cut c.if-not-is_number_of.ensures
 
 pub returns : goal.returns
 returns c =
-    c.elements_reason.ensures CoverWord _ (cover-many c.args.instance.now (tokens_of c.args.line.now) c.requires.long c.if-has_separator_in.ensures c.in-Some.number.now (tokens_of c.in-Some.elements.now) c.in-Some.ensures.cut c.if-not-is_number_of.ensures)
+    c.elements_reason.ensures CoverWord _
+    (cover-many c.args.instance.now (tokens_of c.args.line.now) c.requires.long
+    c.if-has_separator_in.ensures c.in-Some.number.now (tokens_of c.in-Some.elements.now)
+    c.in-Some.ensures.cut c.if-not-is_number_of.ensures)

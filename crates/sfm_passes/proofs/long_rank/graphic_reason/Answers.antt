@@ -7,4 +7,7 @@ pub returns-in-Some-entries_fault : goal.returns-in-Some-entries_fault
 returns-in-Some-entries_fault c = rw c.in-Some.ensures.cut c.in-Some-entries_fault.ensures
 
 pub returns-then-has_token : goal.returns-then-has_token
-returns-then-has_token c = many-entries c.args.instance.now GraphicRank tt c.args.number.now c.in-Some.colon.now (tokens_of c.in-Some.edges.now) (tokens_of c.args.behind.now) c.in-Some.ensures.cut c.if-not-has_token.ensures c.requires c.in_default-entries_fault.ensures c.if-has_token.ensures
+returns-then-has_token c = many-entries c.args.instance.now GraphicRank tt c.args.number.now
+    c.in-Some.colon.now (tokens_of c.in-Some.edges.now) (tokens_of c.args.behind.now)
+    c.in-Some.ensures.cut c.if-not-has_token.ensures c.requires c.in_default-entries_fault.ensures
+    c.if-has_token.ensures

@@ -13,4 +13,9 @@ pub returns-then-is_word-4 : goal.returns-then-is_word-4
 returns-then-is_word-4 c = c.if-is_word-4.ensures
 
 pub returns : goal.returns
-returns c = (c.if-is_word.ensures, c.if-is_word-2.ensures, c.if-is_word-3.ensures, c.if-is_word-4.ensures)
+returns c = (
+  c.if-is_word.ensures,
+  c.if-is_word-2.ensures,
+  c.if-is_word-3.ensures,
+  c.if-is_word-4.ensures,
+)

@@ -6,7 +6,8 @@ use Rattle.sfm_passes.proofs.passes.are_names_in.Given as goal
 
 abbrev pub invariant-loop-token : goal.invariant-loop-token
 invariant-loop-token l = record {
-  some : Any (λ text. IsName text → ⊥) (tokens_of l.left) → Any (λ text. IsName text → ⊥) (tokens_of l.line);
+  some : Any (λ text. IsName text → ⊥) (tokens_of l.left)
+      → Any (λ text. IsName text → ⊥) (tokens_of l.line);
   all : All IsName (tokens_of l.left) → All IsName (tokens_of l.line);
 }
 

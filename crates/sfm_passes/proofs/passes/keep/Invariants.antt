@@ -6,7 +6,8 @@ use Rattle.sfm_passes.proofs.passes.keep.Given as goal
 
 abbrev pub invariant-loop-separator : goal.invariant-loop-separator
 invariant-loop-separator l = record {
-  cut : texts_of l.initial.kept.keys ++ texts_between l.separator l.line ≡ texts_of l.kept.keys ++ texts_between l.separator l.left;
+  cut : texts_of l.initial.kept.keys ++ texts_between l.separator l.line ≡ texts_of
+      l.kept.keys ++ texts_between l.separator l.left;
   once : StandsTwice (texts_of l.kept.keys) → ⊥;
   shorter : length l.left ≤ length l.line;
 }

@@ -10,12 +10,18 @@ pub loop-token-preserved : goal.loop-token-preserved
 loop-token-preserved c =
     let inv = c.loop-token.invariant in
     record {
-      passed = one-passed c.args.line.now c.loop-token.left.now c.in-Some.token.now c.in-Some.behind.now inv.passed c.in-Some.ensures.placed c.in-Some.ensures.cut (sym c.if-is_semicolon_token.ensures);
+      passed = one-passed c.args.line.now c.loop-token.left.now c.in-Some.token.now
+          c.in-Some.behind.now inv.passed c.in-Some.ensures.placed c.in-Some.ensures.cut
+          (sym c.if-is_semicolon_token.ensures);
       shorter = omega (arith, inv.shorter, c.in-Some.ensures.shorter);
     }
 
 pub returns-then-is_semicolon_token-clause-cut : goal.returns-then-is_semicolon_token-clause-cut
-returns-then-is_semicolon_token-clause-cut c = piece-ends c.args.line.now c.loop-token.left.now c.in-Some.token.now c.in-Some.behind.now c.loop-token.invariant.passed c.in-Some.ensures.cut ((bytes_eq-Decides c.in-Some.token.now (codes ";")).0 (sym c.if-is_semicolon_token.ensures))
+returns-then-is_semicolon_token-clause-cut c =
+    piece-ends c.args.line.now c.loop-token.left.now c.in-Some.token.now c.in-Some.behind.now
+    c.loop-token.invariant.passed c.in-Some.ensures.cut
+    ((bytes_eq-Decides c.in-Some.token.now (codes ";")).0 (sym c.if-is_semicolon_token.ensures))
 
 pub returns-clause-cut : goal.returns-clause-cut
-returns-clause-cut c = none-passed c.args.line.now c.loop-token.left.now c.loop-token.invariant.passed c.in_default.ensures.cut
+returns-clause-cut c = none-passed c.args.line.now c.loop-token.left.now
+    c.loop-token.invariant.passed c.in_default.ensures.cut

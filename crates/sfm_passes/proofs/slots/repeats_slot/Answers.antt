@@ -8,4 +8,5 @@ pub returns : goal.returns
 returns c =
     let element = c.in-Some.element.now in
     let behind = c.in-Some.field-0-1.now in
-    repeats-by c.args.token.now element behind c.in-Some.ensures c.in_ok-twice.twice (rw (slots-cut c.args.token.now element behind c.in-Some.ensures) at c.in_ok-twice.ensures)
+    repeats-by c.args.token.now element behind c.in-Some.ensures c.in_ok-twice.twice
+    (rw (slots-cut c.args.token.now element behind c.in-Some.ensures) at c.in_ok-twice.ensures)

@@ -11,5 +11,6 @@ pub returns : goal.returns
 returns c =
     slots-by (pieces_of 44 c.args.text.now) c.all.result
     (cases_from_all _ _ c.all.result IsName (λ t. IsName t → ⊥) c.all.ensures.ran
-    (YieldsList-from_slice_split _ (λ (b : ℕ). b == 44) c.args.text.now c.split.ensures.rest c.split.ensures.done c.split.ensures.closure (λ x r q k. search (rules, tests)))
+    (YieldsList-from_slice_split _ (λ (b : ℕ). b == 44) c.args.text.now c.split.ensures.rest
+    c.split.ensures.done c.split.ensures.closure (λ x r q k. search (rules, tests)))
     (λ x q k. search (rules, tests)) (λ x q k. search (rules, tests)))

@@ -6,6 +6,7 @@ use Rattle.sfm_reach.proofs.asking.ask_all.Given as goal
 
 abbrev pub invariant-loop-i : goal.invariant-loop-i
 invariant-loop-i g l = let t = g.T.Term in AreSized (map t.places l.terms) l.rows.items
-    × ((i : ℕ) → i < l.i → IsTable (meanings t.places t.value_of l.terms) l.q l.bases i (table_at l.rows.items i))
+    × ((i : ℕ) → i < l.i → IsTable (meanings t.places t.value_of l.terms) l.q l.bases i
+    (table_at l.rows.items i))
     × (length l.notes.items ≡ length l.terms)
     × AreNotes (kept_fits t.fits) l.q l.terms l.notes.items l.bases

@@ -17,4 +17,5 @@ zeros (suc (suc (suc (suc k)))) = refl
 
 pub returns : goal.returns
 unfolding four
-returns c e = bit_in-words _ e ∙ (ap (λ w. bit_at w (e % 64)) (zeros (e / 64)) ∙ bit_at-zero (e % 64))
+returns c e = bit_in-words _ e
+    ∙ (ap (λ w. bit_at w (e % 64)) (zeros (e / 64)) ∙ bit_at-zero (e % 64))

@@ -8,10 +8,14 @@ use Rattle.sfm_reach.specs.Reach.{AreRowsOf, IsRow}
 use Rattle.sfm_reach.proofs.reach.ask_row.Goals as goal
 
 -- one row more
-rows_more : (places : List ℕ) (f : SetFunction) (x : List ℤ) (asked asked' : Bits) (rows : List Bits) (u : ℕ) (row : Bits) → u < length rows → AreRowsOf places f x asked rows → IsRow places f x u row
-    → ((k : ℕ) → k ≢ u → bit_in asked' k ≡ bit_in asked k) → AreRowsOf places f x asked' (set rows u row)
+rows_more : (places : List ℕ) (f : SetFunction) (x : List ℤ) (asked asked' : Bits)
+    (rows : List Bits) (u : ℕ) (row : Bits) → u < length rows → AreRowsOf places f x asked rows
+    → IsRow places f x u row
+    → ((k : ℕ) → k ≢ u → bit_in asked' k ≡ bit_in asked k)
+    → AreRowsOf places f x asked' (set rows u row)
 rows_more places f x asked asked' rows u row l known is others v one = ⊎_elim
-    (λ same. subst (λ w. IsRow places f x w (set_at (set rows u row) w)) (sym same) (rw (get_or-set_same rows u row blank_bits l) is))
+    (λ same. subst (λ w. IsRow places f x w (set_at (set rows u row) w)) (sym same)
+    (rw (get_or-set_same rows u row blank_bits l) is))
     (λ ne. rw (get_or-set_other rows u v row blank_bits ne) (known v (sym (others v ne) ∙ one)))
     (cases_eq v u)
 
@@ -29,13 +33,17 @@ pub set-requires : goal.set-requires
 set-requires g c = rw (c.in_ok-row.ensures.same, c.requires.rows) c.if-u-at.false
 
 pub returns-clause-rows : goal.returns-clause-rows
-returns-clause-rows g c = ap length c.set.ensures ∙ (length-set c.row_by.new.rows c.args.u c.in_ok-row.row ∙ ap length c.in_ok-row.ensures.same)
+returns-clause-rows g c = ap length c.set.ensures
+    ∙ (length-set c.row_by.new.rows c.args.u c.in_ok-row.row ∙ ap length c.in_ok-row.ensures.same)
 
 pub returns-clause-known : goal.returns-clause-known
-returns-clause-known g c = rw (c.set.ensures, c.in_ok-row.ensures.same) (rows_more _ _ _ _ _ c.args.rows.now c.args.u _ (rw c.requires.rows c.if-u-at.false) c.requires.known c.in_ok-row.ensures.row c.insert.ensures.others)
+returns-clause-known g c = rw (c.set.ensures, c.in_ok-row.ensures.same)
+    (rows_more _ _ _ _ _ c.args.rows.now c.args.u _ (rw c.requires.rows c.if-u-at.false)
+    c.requires.known c.in_ok-row.ensures.row c.insert.ensures.others)
 
 pub returns-clause-kept : goal.returns-clause-kept
-returns-clause-kept g c = λ v one. ⊎_elim (λ is. rw is c.insert.ensures.put) (λ ne. c.insert.ensures.others v ne ∙ one) (cases_eq v c.args.u)
+returns-clause-kept g c = λ v one. ⊎_elim (λ is. rw is c.insert.ensures.put)
+    (λ ne. c.insert.ensures.others v ne ∙ one) (cases_eq v c.args.u)
 
 pub returns-clause-told : goal.returns-clause-told
 returns-clause-told g c = λ _. c.insert.ensures.put

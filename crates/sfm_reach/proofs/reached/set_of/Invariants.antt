@@ -5,4 +5,5 @@ use Rattle.sfm_reach.specs.Bits.{bit_in}
 use Rattle.sfm_reach.proofs.reached.set_of.Given as goal
 
 abbrev pub invariant-loop-e : goal.invariant-loop-e
-invariant-loop-e l = (length l.set ≡ l.n) × ((e : ℕ) → e < l.n → Has l.set e ↔ ((e < l.e) × (bit_in l.bits e ≡ 1)))
+invariant-loop-e l = (length l.set ≡ l.n)
+    × ((e : ℕ) → e < l.n → Has l.set e ↔ ((e < l.e) × (bit_in l.bits e ≡ 1)))

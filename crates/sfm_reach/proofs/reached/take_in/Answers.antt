@@ -10,5 +10,6 @@ returns c = record {
       let l = bit_in-lt c.args.row.now e in
       let lf = bit_in-lt c.args.found.now e in
       omega (arith, m, g, l, lf);
-  next = λ e. let m = c.remove_all.ensures e in let n = c.union_with-2.ensures e in omega (arith, m, n);
+  next = λ e. let m = c.remove_all.ensures e in let n = c.union_with-2.ensures
+      e in omega (arith, m, n);
 }

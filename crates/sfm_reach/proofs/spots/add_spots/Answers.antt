@@ -9,6 +9,9 @@ loop-local-preserved c =
     let k = c.loop-local.local in
     let mid = c.loop-local.spots.items in
     let place = get_or c.args.places.now k 0 in
-    let inside : place < length mid = rw c.loop-local.invariant.count (c.requires.below k c.loop-local-test.true) in
-    let read : spots_at mid place ≡ c.index_mut-at.result.now = spots_read mid place c.index_mut-at.result.now inside c.index_mut-at.ensures.value in
-    rw (pushed, ← read) (adds_more c.args.places.now c.args.i k c.args.spots.now.items mid c.loop-local.invariant inside)
+    let inside : place < length mid = rw c.loop-local.invariant.count
+    (c.requires.below k c.loop-local-test.true) in
+    let read : spots_at mid place ≡ c.index_mut-at.result.now = spots_read mid place
+    c.index_mut-at.result.now inside c.index_mut-at.ensures.value in
+    rw (pushed, ← read) (adds_more c.args.places.now c.args.i k c.args.spots.now.items mid
+    c.loop-local.invariant inside)

@@ -6,4 +6,6 @@ use Rattle.sfm_reach.specs.Unions.{IsUnion}
 use Rattle.sfm_reach.proofs.unions.unions_of.Given as goal
 
 abbrev pub invariant-loop-e : goal.invariant-loop-e
-invariant-loop-e l = (length l.unions.items ≡ l.e) × ((e : ℕ) → e < l.e → IsUnion l.rows (spots_at l.spots e) (length (spots_at l.spots e)) (set_at l.unions.items e))
+invariant-loop-e l = (length l.unions.items ≡ l.e)
+    × ((e : ℕ) → e < l.e → IsUnion l.rows (spots_at l.spots e) (length (spots_at l.spots e))
+    (set_at l.unions.items e))

@@ -18,16 +18,25 @@ loop-u-preserved c =
     elim c.if-contains.branch [
       | then-contains w ↦
           let one = w.if-contains.ensures.0 refl in
-          let (row, is, wide) = w.put_in.ensures.put in
-          (rw (w.unions-is, is) (widened_more places c.args.rows.now c.args.grown.now u c.args.unions.now.items unions row r.placed.distinct lu inv.0 one here (rw w.as_slice.ensures at wide)), rw (w.unions-is, w.back-is) w.put_in.ensures.turned)
+          let (row, is, wide) = w.put_in.ensures.put in (
+            rw (w.unions-is, is) (widened_more places c.args.rows.now c.args.grown.now u
+                c.args.unions.now.items unions row r.placed.distinct lu inv.0 one here
+                (rw w.as_slice.ensures at wide)),
+            rw (w.unions-is, w.back-is) w.put_in.ensures.turned,
+          )
       | else-contains w ↦
-          let none : bit_in c.args.grown.now e ≢ 1 = λ one. both_ways false refl (w.if-contains.ensures.1 one) in
-          (rw w.unions-is (widened_past places c.args.rows.now c.args.grown.now u c.args.unions.now.items unions inv.0 none), rw (w.unions-is, w.back-is) inv.1)
+          let none : bit_in c.args.grown.now e ≢ 1 = λ one.
+          both_ways false refl (w.if-contains.ensures.1 one) in (
+            rw w.unions-is (widened_past places c.args.rows.now c.args.grown.now u
+                c.args.unions.now.items unions inv.0 none),
+            rw (w.unions-is, w.back-is) inv.1,
+          )
     ]
 
 pub returns-then-is_empty-clause-widened : goal.returns-then-is_empty-clause-widened
 returns-then-is_empty-clause-widened c = record {
   count = refl;
-  widened = λ u l one. absurd (c.is_empty.ensures.empty c.if-is_empty.true (get_or c.args.places.now u 0) one);
+  widened = λ u l one. absurd (c.is_empty.ensures.empty c.if-is_empty.true
+      (get_or c.args.places.now u 0) one);
   others = λ e none. refl;
 }

@@ -1,4 +1,5 @@
--- the names so far stand before the rest, and are what any list of names that the bytes hold begins with
+-- the names so far stand before the rest, and are what any list of names that the bytes hold begins
+-- with
 use Rattle.sfm_readback.proofs.Names.{NamesSoFar}
 use Rattle.sfm_readback.proofs.lists.split_names.Given as goal
 

@@ -1,4 +1,5 @@
--- the needs so far stand before the rest, ascend to the last one, and are the first ones of any needs that the bytes hold
+-- the needs so far stand before the rest, ascend to the last one, and are the first ones of any
+-- needs that the bytes hold
 use Rattle.std.proofs.Common.{length}
 use Rattle.sfm_readback.proofs.Needs.{NeedsSoFar}
 use Rattle.sfm_readback.proofs.numbers.needs_of.Given as goal

@@ -4,4 +4,5 @@ use Rattle.sfm_readback.proofs.Needs.{NumbersSoFar}
 use Rattle.sfm_readback.proofs.numbers.numbers_into.Given as goal
 
 abbrev pub invariant-loop : goal.invariant-loop
-invariant-loop l = NumbersSoFar l.count l.bytes l.numbers.items l.rest × (length l.numbers.items ≡ l.counter)
+invariant-loop l = NumbersSoFar l.count l.bytes l.numbers.items l.rest
+    × (length l.numbers.items ≡ l.counter)

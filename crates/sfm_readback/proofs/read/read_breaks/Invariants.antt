@@ -5,4 +5,5 @@ use Rattle.sfm_readback.proofs.Sections.{BreaksSoFar}
 use Rattle.sfm_readback.proofs.read.read_breaks.Given as goal
 
 abbrev pub invariant-loop-head : goal.invariant-loop-head
-invariant-loop-head l = BreaksSoFar (form_of l.instance) l.text (map break_of_head l.heads) l.initial.cursor l.cursor l.head-index (map break_of l.breaks.items)
+invariant-loop-head l = BreaksSoFar (form_of l.instance) l.text (map break_of_head l.heads)
+    l.initial.cursor l.cursor l.head-index (map break_of l.breaks.items)

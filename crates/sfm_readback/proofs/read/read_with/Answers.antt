@@ -13,12 +13,17 @@ use Rattle.sfm_readback.proofs.read.read_with.Goals.{In_ok-breaks}
 use Rattle.sfm_readback.proofs.read.read_with.Goals as goal
 
 -- the sections are those of the slope lines
-sections : (c : In_ok-breaks) → let heads = map break_of_head c.in_ok-heads.heads.items in let breaks = map break_of c.in_ok-breaks.breaks.items in
-    ReadsBreaks (form_with (header_text c.args.header) c.args.instance.now) c.args.text.now c.read_rows.new.cursor c.read_breaks.new.cursor heads [] breaks × AreBreaksOf (form_with (header_text c.args.header) c.args.instance.now) heads breaks
+sections : (c : In_ok-breaks) → let heads = map break_of_head
+    c.in_ok-heads.heads.items in let breaks = map break_of c.in_ok-breaks.breaks.items in
+    ReadsBreaks (form_with (header_text c.args.header) c.args.instance.now) c.args.text.now
+    c.read_rows.new.cursor c.read_breaks.new.cursor heads [] breaks
+    × AreBreaksOf (form_with (header_text c.args.header) c.args.instance.now) heads breaks
 sections c =
     let i = c.args.instance.now in
-    let h = header_text c.args.header in
-    (breaks_behind i h (rw c.deref.ensures.value at c.in_ok-breaks.ensures.read), breaks_formed i h (rw c.deref.ensures.value at c.in_ok-breaks.ensures.same))
+    let h = header_text c.args.header in (
+      breaks_behind i h (rw c.deref.ensures.value at c.in_ok-breaks.ensures.read),
+      breaks_formed i h (rw c.deref.ensures.value at c.in_ok-breaks.ensures.same),
+    )
 
 pub read_blocks-requires : goal.read_blocks-requires
 read_blocks-requires c = c.in_ok-value.ensures.read.reads.within
@@ -56,7 +61,8 @@ returns-in_err-blocks-clause-refused c =
     bad_blocks (form_with h i) (header_line c.args.header) c.names_len-names.ensures.named.forms
     c.args.text.now _ refl refl c.in_ok-value.ensures.read c.from_residual-in_err-blocks.result
     c.in_err-blocks.field-0.0 c.from_residual-in_err-blocks.ensures.1
-    (ends_behind i h c.args.text.now _ _ c.in_err-blocks.field-0.0 tt c.in_err-blocks.ensures.stopped)
+    (ends_behind i h c.args.text.now _ _ c.in_err-blocks.field-0.0 tt
+    c.in_err-blocks.ensures.stopped)
 
 pub returns-in_err-heads-clause-refused : goal.returns-in_err-heads-clause-refused
 returns-in_err-heads-clause-refused c =
@@ -67,7 +73,8 @@ returns-in_err-heads-clause-refused c =
     (blocks_behind i h c.in_ok-blocks.ensures.read) c.in_ok-blocks.ensures.next
     c.from_residual-in_err-heads.result c.in_err-heads.field-0.0
     c.from_residual-in_err-heads.ensures.1
-    (λ k. ends_behind i h c.args.text.now _ _ c.in_err-heads.field-0.0 tt (c.in_err-heads.ensures.stopped k))
+    (λ k. ends_behind i h c.args.text.now _ _ c.in_err-heads.field-0.0 tt
+    (c.in_err-heads.ensures.stopped k))
 
 pub returns-in_err-expect-clause-refused : goal.returns-in_err-expect-clause-refused
 returns-in_err-expect-clause-refused c =
@@ -90,7 +97,8 @@ returns-in_err-bases-clause-refused c =
     (heads_behind i h c.in_ok-heads.ensures.read) c.in_ok-heads.ensures.next
     c.in_ok-expect.ensures.taken c.in_ok-expect.ensures.within c.from_residual-in_err-bases.result
     c.in_err-bases.field-0.0 c.from_residual-in_err-bases.ensures.1
-    (λ d. ends_behind i h c.args.text.now _ _ c.in_err-bases.field-0.0 tt (c.in_err-bases.ensures.stopped d))
+    (λ d. ends_behind i h c.args.text.now _ _ c.in_err-bases.field-0.0 tt
+    (c.in_err-bases.ensures.stopped d))
 
 pub returns-in_err-breaks-clause-refused : goal.returns-in_err-breaks-clause-refused
 returns-in_err-breaks-clause-refused c =
@@ -103,7 +111,8 @@ returns-in_err-breaks-clause-refused c =
     c.in_ok-expect.ensures.taken c.in_ok-expect.ensures.within
     (rows_behind i h c.in_ok-bases.ensures.read) c.from_residual-in_err-breaks.result
     c.in_err-breaks.field-0.0 c.from_residual-in_err-breaks.ensures.1
-    (λ k. ends_behind i h c.args.text.now _ _ c.in_err-breaks.field-0.0 tt ((rw c.deref.ensures.value at c.in_err-breaks.ensures.stopped) k))
+    (λ k. ends_behind i h c.args.text.now _ _ c.in_err-breaks.field-0.0 tt
+    ((rw c.deref.ensures.value at c.in_err-breaks.ensures.stopped) k))
 
 pub returns-in_err-expect-2-clause-refused : goal.returns-in_err-expect-2-clause-refused
 returns-in_err-expect-2-clause-refused c =
@@ -137,7 +146,8 @@ returns-clause-read c =
     let i = c.args.instance.now in
     let h = header_text c.args.header in
     let s = sections (goal.at.returns-clause-read c).In_ok-breaks in
-    let f : FitsSigned w128 c.in_ok-value.value = entry_fits c.in_ok-value.value c.in_ok-value.ensures.read.small in
+    let f : FitsSigned w128 c.in_ok-value.value = entry_fits c.in_ok-value.value
+    c.in_ok-value.ensures.read.small in
     simp to_z-of_z
     (whole_text (form_with h i) (header_line c.args.header) c.names_len-names.ensures.named.forms
     c.args.text.now _ refl refl c.in_ok-value.ensures.read

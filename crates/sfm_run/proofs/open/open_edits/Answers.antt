@@ -7,5 +7,7 @@ use Rattle.sfm_run.proofs.Opening.{opens_long}
 use Rattle.sfm_run.proofs.open.open_edits.Goals as goal
 
 pub returns-in-Ok-None : goal.returns-in-Ok-None
-returns-in-Ok-None g c = opens_long question_of (codes "edits") (edits_form c.args.instance) (λ e edited. (edited.instance ≡ e.instance) × AllZip IsMeaningOf e.instance.terms edited.meant)
-    c.args.file.now _ _ c.faulty.result c.in-Ok-None.ensures.kept (rw c.in-Ok-None.field-0-is at c.in-Ok-None.ensures.read) c.faulty.ensures
+returns-in-Ok-None g c = opens_long question_of (codes "edits") (edits_form c.args.instance)
+    (λ e edited. (edited.instance ≡ e.instance) × AllZip IsMeaningOf e.instance.terms edited.meant)
+    c.args.file.now _ _ c.faulty.result c.in-Ok-None.ensures.kept
+    (rw c.in-Ok-None.field-0-is at c.in-Ok-None.ensures.read) c.faulty.ensures

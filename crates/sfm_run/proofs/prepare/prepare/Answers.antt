@@ -10,4 +10,5 @@ prepare_demo-requires g c = c.requires c.in-Demo.seed (ap command_of c.in-Demo.i
 pub returns-in-Demo : goal.returns-in-Demo
 returns-in-Demo g c =
     let shelf = g.S.Shelf.state c.args.shelf.now in
-    subst (λ command. Prepares (task_of (command_of command)) shelf shelf c.prepare_demo.result) (sym c.in-Demo.is) (c.prepare_demo.ensures shelf)
+    subst (λ command. Prepares (task_of (command_of command)) shelf shelf c.prepare_demo.result)
+    (sym c.in-Demo.is) (c.prepare_demo.ensures shelf)

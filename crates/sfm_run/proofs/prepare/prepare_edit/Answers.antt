@@ -11,11 +11,14 @@ abbrev rest : List ℕ → Question → Task
 rest edits asked = reads (edits_file asked edits) (λ edited. writes (IsSolved edited))
 
 pub returns-in-Ok-Good : goal.returns-in-Ok-Good
-returns-in-Ok-Good g c = goes_on question_of (main_file c.args.file.now) (rest c.args.edits.now) c.in-Ok-Good.instance _ _ _ c.edit_behind.result
+returns-in-Ok-Good g c = goes_on question_of (main_file c.args.file.now) (rest c.args.edits.now)
+    c.in-Ok-Good.instance _ _ _ c.edit_behind.result
     (rw c.in-Ok-Good.field-0-is at c.in-Ok-Good.ensures) c.edit_behind.ensures
 
 pub returns-in-Ok-Faulty : goal.returns-in-Ok-Faulty
-returns-in-Ok-Faulty g c = refuses question_of (main_file c.args.file.now) (rest c.args.edits.now) _ _ c.in-Ok-Faulty.due (rw c.in-Ok-Faulty.field-0-is at c.in-Ok-Faulty.ensures)
+returns-in-Ok-Faulty g c = refuses question_of (main_file c.args.file.now) (rest c.args.edits.now) _
+    _ c.in-Ok-Faulty.due (rw c.in-Ok-Faulty.field-0-is at c.in-Ok-Faulty.ensures)
 
 pub returns-in-Err : goal.returns-in-Err
-returns-in-Err g c = misses question_of (main_file c.args.file.now) (rest c.args.edits.now) _ _ c.in-Err.status c.in-Err.ensures
+returns-in-Err g c = misses question_of (main_file c.args.file.now) (rest c.args.edits.now) _ _
+    c.in-Err.status c.in-Err.ensures

@@ -10,11 +10,16 @@ abbrev rest : Question → Task
 rest asked = writes (IsSolved asked)
 
 pub returns-in-Ok-Good : goal.returns-in-Ok-Good
-returns-in-Ok-Good g c = goes_on question_of (main_file c.args.file.now) rest c.in-Ok-Good.instance _ _ _ c.made.result
-    (rw c.in-Ok-Good.field-0-is at c.in-Ok-Good.ensures) (made (λ written code. IsSolved (question_of c.in-Ok-Good.instance) written × (code ≡ 0)) c.due_to_solve.result c.made.result _ c.due_to_solve.ensures c.made.ensures)
+returns-in-Ok-Good g c = goes_on question_of (main_file c.args.file.now) rest c.in-Ok-Good.instance
+    _ _ _ c.made.result
+    (rw c.in-Ok-Good.field-0-is at c.in-Ok-Good.ensures)
+    (made (λ written code. IsSolved (question_of c.in-Ok-Good.instance) written × (code ≡ 0))
+    c.due_to_solve.result c.made.result _ c.due_to_solve.ensures c.made.ensures)
 
 pub returns-in-Ok-Faulty : goal.returns-in-Ok-Faulty
-returns-in-Ok-Faulty g c = refuses question_of (main_file c.args.file.now) rest _ _ c.in-Ok-Faulty.due (rw c.in-Ok-Faulty.field-0-is at c.in-Ok-Faulty.ensures)
+returns-in-Ok-Faulty g c = refuses question_of (main_file c.args.file.now) rest _ _
+    c.in-Ok-Faulty.due (rw c.in-Ok-Faulty.field-0-is at c.in-Ok-Faulty.ensures)
 
 pub returns-in-Err : goal.returns-in-Err
-returns-in-Err g c = misses question_of (main_file c.args.file.now) rest _ _ c.in-Err.status c.in-Err.ensures
+returns-in-Err g c = misses question_of (main_file c.args.file.now) rest _ _ c.in-Err.status
+    c.in-Err.ensures

@@ -9,14 +9,19 @@ use Rattle.sfm_run.proofs.Joining.{goes_on, misses, refuses}
 use Rattle.sfm_run.proofs.prepare.prepare_weighed.Goals as goal
 
 abbrev rest : List ℕ → List ℕ → Question → Task
-rest sizes answer asked = reads (sizes_file asked sizes) (λ w. reads (answer_file answer) (λ text. ends (IsJudgedBySizes asked w text)))
+rest sizes answer asked = reads (sizes_file asked sizes)
+    (λ w. reads (answer_file answer) (λ text. ends (IsJudgedBySizes asked w text)))
 
 pub returns-in-Ok-Good : goal.returns-in-Ok-Good
-returns-in-Ok-Good g c = goes_on question_of (main_file c.args.file.now) (rest c.args.sizes.now c.args.answer.now) c.in-Ok-Good.instance _ _ _ c.weighed_behind.result
+returns-in-Ok-Good g c = goes_on question_of (main_file c.args.file.now)
+    (rest c.args.sizes.now c.args.answer.now) c.in-Ok-Good.instance _ _ _ c.weighed_behind.result
     (rw c.in-Ok-Good.field-0-is at c.in-Ok-Good.ensures) c.weighed_behind.ensures
 
 pub returns-in-Ok-Faulty : goal.returns-in-Ok-Faulty
-returns-in-Ok-Faulty g c = refuses question_of (main_file c.args.file.now) (rest c.args.sizes.now c.args.answer.now) _ _ c.in-Ok-Faulty.due (rw c.in-Ok-Faulty.field-0-is at c.in-Ok-Faulty.ensures)
+returns-in-Ok-Faulty g c = refuses question_of (main_file c.args.file.now)
+    (rest c.args.sizes.now c.args.answer.now) _ _ c.in-Ok-Faulty.due
+    (rw c.in-Ok-Faulty.field-0-is at c.in-Ok-Faulty.ensures)
 
 pub returns-in-Err : goal.returns-in-Err
-returns-in-Err g c = misses question_of (main_file c.args.file.now) (rest c.args.sizes.now c.args.answer.now) _ _ c.in-Err.status c.in-Err.ensures
+returns-in-Err g c = misses question_of (main_file c.args.file.now)
+    (rest c.args.sizes.now c.args.answer.now) _ _ c.in-Err.status c.in-Err.ensures

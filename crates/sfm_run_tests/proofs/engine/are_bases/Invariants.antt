@@ -7,4 +7,6 @@ use Rattle.sfm_run_tests.proofs.engine.are_bases.Given as goal
 
 -- the rows before are bases
 abbrev pub invariant-loop-i : goal.invariant-loop-i
-invariant-loop-i l = (j : ℕ) → j < l.i → IsBase (times (pos 1) (term_at (meanings kind_places kind_value l.terms) j).value) (base_at l.rows j)
+invariant-loop-i l = (j : ℕ) → j < l.i
+    → IsBase (times (pos 1) (term_at (meanings kind_places kind_value l.terms) j).value)
+    (base_at l.rows j)

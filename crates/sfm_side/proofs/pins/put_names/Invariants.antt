@@ -10,8 +10,10 @@ abbrev pub invariant-loop-name : goal.invariant-loop-name
 invariant-loop-name l = record {
   places : length l.to ≡ length l.instance.names;
   known : All (IsKnown l.instance.names) (tokens_of l.left);
-  puts : (after : List Bool) → PutsNames l.instance.names l.to l.other (tokens_of l.left) after → PutsNames l.instance.names l.initial.to l.other (tokens_of l.line) after;
-  again : PutsAgain l.instance.names l.to l.other (tokens_of l.left) → PutsAgain l.instance.names l.initial.to l.other (tokens_of l.line);
+  puts : (after : List Bool) → PutsNames l.instance.names l.to l.other (tokens_of l.left) after
+      → PutsNames l.instance.names l.initial.to l.other (tokens_of l.line) after;
+  again : PutsAgain l.instance.names l.to l.other (tokens_of l.left)
+      → PutsAgain l.instance.names l.initial.to l.other (tokens_of l.line);
 }
 
 abbrev pub decreases-loop-name : goal.decreases-loop-name

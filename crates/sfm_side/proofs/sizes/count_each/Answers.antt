@@ -19,13 +19,18 @@ loop-e-preserved c =
     let before = c.loop-e.invariant in
     let lt : e < length kept = omega (arith, c.loop-e-test.true, before.kept.places) in
     let w = get_or kept e (pos 0) in
-    let old = All-get_or (λ (w : ℤ). (pos 0 ≤ℤ w) × (w ≤ℤ pos (10 ^ 6))) kept e (pos 0) lt before.kept.each in
-    let same : to_z w128 (of_z w128 (get_or kept e (pos 0))) ≡ get_or kept e (pos 0) = omega (arith, ints, old.0, old.1) in
-    let is : c.counted.result ≡ count_of (get_or kept e (pos 0)) = c.counted.ensures ∙ ap count_of same in
+    let old = All-get_or (λ (w : ℤ). (pos 0 ≤ℤ w) × (w ≤ℤ pos (10 ^ 6))) kept e (pos 0) lt
+    before.kept.each in
+    let same : to_z w128 (of_z w128 (get_or kept e (pos 0))) ≡ get_or kept e
+    (pos 0) = omega (arith, ints, old.0, old.1) in
+    let is : c.counted.result ≡ count_of (get_or kept e (pos 0)) = c.counted.ensures
+    ∙ ap count_of same in
     let low = count-low w in
     let high = count-high w old.1 in
-    let put : to_z w128 (of_z w128 c.counted.result) ≡ count_of (get_or kept e (pos 0)) = omega (arith, ints, is, low, high) in
+    let put : to_z w128 (of_z w128 c.counted.result) ≡ count_of
+    (get_or kept e (pos 0)) = omega (arith, ints, is, low, high) in
     record {
-      so_far = rw put (map_over_more count_of first kept e w c.loop-e-test.true before.so_far (get_or_default kept e (pos 0) w lt));
+      so_far = rw put (map_over_more count_of first kept e w c.loop-e-test.true before.so_far
+          (get_or_default kept e (pos 0) w lt));
       kept = set-kept (length first) kept e (count_of w) _ before.kept put low high;
     }

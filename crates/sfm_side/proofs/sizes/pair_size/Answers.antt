@@ -7,13 +7,16 @@ use Rattle.sfm_side.proofs.sizes.pair_size.Goals as goal
 pub unreachable-requires-in_default-place_of : goal.unreachable-requires-in_default-place_of
 unreachable-requires-in_default-place_of c =
     let (other, is, known) = c.requires.element in
-    let same : other ≡ (c.in-Some.name.now, c.in-Some.number.now) = pair-same c.args.token.now other _ is c.in-Some.ensures in
-    new-unknown c.args.instance.now.names c.in-Some.name.now c.in_default-place_of.ensures.none (rw same at known)
+    let same : other ≡ (c.in-Some.name.now, c.in-Some.number.now) = pair-same c.args.token.now other
+    _ is c.in-Some.ensures in
+    new-unknown c.args.instance.now.names c.in-Some.name.now c.in_default-place_of.ensures.none
+    (rw same at known)
 
 pub unreachable-requires-in_default-size_for : goal.unreachable-requires-in_default-size_for
 unreachable-requires-in_default-size_for c =
     let (other, is, (value, size)) = c.requires.size in
-    let same : other ≡ (c.in-Some.name.now, c.in-Some.number.now) = pair-same c.args.token.now other _ is c.in-Some.ensures in
+    let same : other ≡ (c.in-Some.name.now, c.in-Some.number.now) = pair-same c.args.token.now other
+    _ is c.in-Some.ensures in
     c.in_default-size_for.not-Some value ((c.size_for.ensures value).1 (rw same at size))
 
 pub returns-clause-pair : goal.returns-clause-pair

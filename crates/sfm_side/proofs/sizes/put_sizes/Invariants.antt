@@ -12,8 +12,10 @@ invariant-loop-token l = record {
   kept : AreKept (length l.instance.names) l.kept;
   sizes : All (Passes l.instance.names PairSize) (tokens_of l.left);
   elements : All (Passes l.instance.names PairElement) (tokens_of l.left);
-  puts : (after : List (Option ℤ)) → Puts l.instance.names (given_of l.kept) (tokens_of l.left) after → Puts l.instance.names (given_of l.initial.kept) (tokens_of l.line) after;
-  twice : PutsTwice l.instance.names (given_of l.kept) (tokens_of l.left) → PutsTwice l.instance.names (given_of l.initial.kept) (tokens_of l.line);
+  puts : (after : List (Option ℤ)) → Puts l.instance.names (given_of l.kept) (tokens_of l.left)
+      after → Puts l.instance.names (given_of l.initial.kept) (tokens_of l.line) after;
+  twice : PutsTwice l.instance.names (given_of l.kept) (tokens_of l.left)
+      → PutsTwice l.instance.names (given_of l.initial.kept) (tokens_of l.line);
 }
 
 abbrev pub decreases-loop-token : goal.decreases-loop-token

@@ -8,7 +8,9 @@ pub with_place-both-requires-clause-out : goal.with_place-both-requires-clause-o
 with_place-both-requires-clause-out c =
     let r = c.requires in
     let apart : c.args.b ≢ c.args.a = (λ e. absurd (omega (arith, r.ordered, e))) in
-    rw c.with_place-with_a.ensures.members (get_or-set_other (members c.args.k c.args.s) c.args.a c.args.b true false apart ∙ r.second_out)
+    rw c.with_place-with_a.ensures.members
+    (get_or-set_other (members c.args.k c.args.s) c.args.a c.args.b true false apart
+    ∙ r.second_out)
 
 pub returns : goal.returns
 returns c =
@@ -17,5 +19,12 @@ returns c =
     let f3 : FitsSigned w128 c.listed-3.result = record { sfits = c.listed-3.type_inv } in
     let f4 : FitsSigned w128 c.listed-4.result = record { sfits = c.listed-4.type_inv } in
     let less = simp to_z-of_z at c.have_less.ensures in
-    let sets = rw (c.listed.ensures.value, c.listed-2.ensures.value, c.listed-3.ensures.value, c.listed-4.ensures.value, c.with_place-with_b.ensures.members, c.with_place-both.ensures.members) at less in
+    let sets = rw (
+      c.listed.ensures.value,
+      c.listed-2.ensures.value,
+      c.listed-3.ensures.value,
+      c.listed-4.ensures.value,
+      c.with_place-with_b.ensures.members,
+      c.with_place-both.ensures.members,
+    ) at less in
     rw c.with_place-with_a.ensures.members at sets

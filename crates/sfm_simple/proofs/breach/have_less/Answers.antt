@@ -16,4 +16,7 @@ returns c =
     let f4 : FitsSigned w128 c.args.neither = c.ranges.neither in
     let s1 : FitsSigned w128 (c.args.first +ℤ c.args.second) = omega (arith, ints) in
     let s2 : FitsSigned w128 (c.args.both +ℤ c.args.neither) = omega (arith, ints) in
-    simp to_z-of_z ((λ t. omega (arith, ints, t)), from_less (c.args.first +ℤ c.args.second) (c.args.both +ℤ c.args.neither))
+    simp to_z-of_z (
+      (λ t. omega (arith, ints, t)),
+      from_less (c.args.first +ℤ c.args.second) (c.args.both +ℤ c.args.neither),
+    )

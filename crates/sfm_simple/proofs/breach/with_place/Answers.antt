@@ -11,7 +11,9 @@ overflow_add-result c =
     omega (arith, low, most, c.unit.ensures)
 
 pub returns-clause-number : goal.returns-clause-number
-returns-clause-number c = let r = c.requires in rw c.unit.ensures (place_below c.args._k c.args.s c.args.a r.number r.place r.out)
+returns-clause-number c = let r = c.requires in rw c.unit.ensures
+    (place_below c.args._k c.args.s c.args.a r.number r.place r.out)
 
 pub returns-clause-members : goal.returns-clause-members
-returns-clause-members c = let r = c.requires in rw c.unit.ensures (place_members c.args._k c.args.s c.args.a r.number r.place r.out)
+returns-clause-members c = let r = c.requires in rw c.unit.ensures
+    (place_members c.args._k c.args.s c.args.a r.number r.place r.out)

@@ -12,5 +12,6 @@ returns c =
     let kept : List Bool = members (length old) c.args.s in
     let inv = c.loop-j.invariant in
     let same : length old ≡ length kept = sym (length-members (length old) c.args.s) in
-    ext_get_or false c.loop-j.to (intersection old kept) (inv.places ∙ sym (length-intersection old kept same))
+    ext_get_or false c.loop-j.to (intersection old kept)
+    (inv.places ∙ sym (length-intersection old kept same))
     (λ k h. inv.done k (omega (arith, h, inv.places)) ∙ sym (get_or-intersection old kept k same))

@@ -13,7 +13,10 @@ loop-j-preserved c =
     elim c.if-contains.branch [
       | then-contains w ↦
           (let e = number_with s j c.loop-j.number _ h (sym w.if-contains.ensures) inv.so_far in
-          record { so_far = rw (w.number-is, w.unit-number.ensures) e; below = omega (arith, d, inv.below, w.number-is, w.unit-number.ensures) })
+          record {
+            so_far = rw (w.number-is, w.unit-number.ensures) e;
+            below = omega (arith, d, inv.below, w.number-is, w.unit-number.ensures);
+          })
       | else-contains w ↦
           (let e = number_without s j c.loop-j.number _ h (sym w.if-contains.ensures) inv.so_far in
           record { so_far = rw w.number-is e; below = omega (arith, d, inv.below, w.number-is) })

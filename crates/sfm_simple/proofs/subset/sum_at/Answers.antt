@@ -11,7 +11,8 @@ pub loop-a-preserved : goal.loop-a-preserved
 loop-a-preserved c =
     let x = c.args.x.now in
     let i = c.loop-a.a-index in
-    let a : IsEntry (get_or x i (pos 0)) = All-get_or IsEntry x i (pos 0) c.loop-a-test.true c.requires.small in
+    let a : IsEntry (get_or x i (pos 0)) = All-get_or IsEntry x i (pos 0) c.loop-a-test.true
+    c.requires.small in
     let step = sum_over-members x i c.loop-a.rest c.loop-a-test.true in
     let inv = c.loop-a.invariant in
     elim c.if-rest-eq1.branch [

@@ -11,7 +11,8 @@ pub loop-w-preserved : goal.loop-w-preserved
 loop-w-preserved c =
     let weights = c.args.weights.now in
     let i = c.loop-w.w-index in
-    let w : IsGiven (get_or weights i (pos 0)) = All-get_or IsGiven weights i (pos 0) c.loop-w-test.true c.requires.given in
+    let w : IsGiven (get_or weights i (pos 0)) = All-get_or IsGiven weights i (pos 0)
+    c.loop-w-test.true c.requires.given in
     let f : FitsSigned w128 (get_or weights i (pos 0)) = given_fits _ w in
     let step = magnitudes-drop weights i c.loop-w-test.true in
     let added = simp to_z-of_z at c.magnitude-total.ensures in

@@ -30,10 +30,12 @@ loop-e-preserved c =
     let fw : FitsSigned w128 (get_or sizes e (pos 0)) = omega (arith, ints, one, most) in
     let fits : FitsSigned w128 (p *ℤ get_or sizes e (pos 0))
     = product-fits _ sizes e p c.requires.small c.requires.sizes l in
-    let before : take e c.loop-e.shift ≡ sized_shift (take e sizes) p = simp to_z-of_z at inv.so_far in
+    let before : take e c.loop-e.shift ≡ sized_shift (take e sizes) p = simp to_z-of_z at
+    inv.so_far in
     let wrote = take_more_set c.loop-e.shift e (p *ℤ get_or sizes e (pos 0))
     (omega (arith, l, inv.places)) in
     simp to_z-of_z (record {
       places = rw length-set inv.places;
-      so_far = wrote ∙ ap (λ x. x ++ (p *ℤ get_or sizes e (pos 0)) ∷ []) before ∙ sym (sized-more sizes e p l);
+      so_far = wrote ∙ ap (λ x. x ++ (p *ℤ get_or sizes e (pos 0)) ∷ []) before
+          ∙ sym (sized-more sizes e p l);
     })

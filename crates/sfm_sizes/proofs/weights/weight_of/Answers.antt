@@ -16,7 +16,8 @@ overflow_add-weight c =
     let inv = c.loop-e.invariant in
     let (one, most) = size-at _ sizes e r c.loop-e-test.true in
     let fw : FitsSigned w128 (get_or sizes e (pos 0)) = omega (arith, ints, one, most) in
-    let step = weight-step _ c.args.set.now sizes e _ r r.places c.loop-e-test.true inv.low inv.so_far in
+    let step = weight-step _ c.args.set.now sizes e _ r r.places c.loop-e-test.true inv.low
+    inv.so_far in
     let (_, low, high) = rw (← c.contains.ensures, c.if-contains.true) at step in
     simp to_z-of_z (omega (arith, ints, low, high))
 
@@ -28,7 +29,8 @@ loop-e-preserved c =
     let inv = c.loop-e.invariant in
     let (one, most) = size-at _ sizes e r c.loop-e-test.true in
     let fw : FitsSigned w128 (get_or sizes e (pos 0)) = omega (arith, ints, one, most) in
-    let step = weight-step _ c.args.set.now sizes e _ r r.places c.loop-e-test.true inv.low inv.so_far in
+    let step = weight-step _ c.args.set.now sizes e _ r r.places c.loop-e-test.true inv.low
+    inv.so_far in
     elim c.if-contains.branch [
       | then-contains w ↦
           let (so_far, low, high) = rw (← c.contains.ensures, w.if-contains.true) at step in
@@ -38,7 +40,10 @@ loop-e-preserved c =
           record { so_far = rw is so_far; low = rw is low }
       | else-contains w ↦
           let (so_far, low, high) = rw (← c.contains.ensures, w.if-contains.false) at step in
-          record { so_far = omega (arith, ints, so_far, w.weight-is); low = omega (arith, ints, low, w.weight-is) }
+          record {
+            so_far = omega (arith, ints, so_far, w.weight-is);
+            low = omega (arith, ints, low, w.weight-is);
+          }
     ]
 
 pub returns-clause-high : goal.returns-clause-high

@@ -8,22 +8,27 @@ use Rattle.sfm_slope.proofs.attained.worth_by.Goals as goal
 use Rattle.sfm_slope.proofs.attained.worth_by.Goals.{After-weight_of-weight}
 
 -- p times the weight fits
-taken_fits : (c : After-weight_of-weight) → FitsSigned w128 (c.args.line.p *ℤ c.weight_of-weight.result)
+taken_fits : (c : After-weight_of-weight)
+    → FitsSigned w128 (c.args.line.p *ℤ c.weight_of-weight.result)
 taken_fits c =
     let w = c.weight_of-weight.ensures in
     let most = c.requires.sizes.small in
-    let s = product_small c.args.line.p c.weight_of-weight.result c.args.line.small w.low (omega (arith, ints, w.high, most)) in
+    let s = product_small c.args.line.p c.weight_of-weight.result c.args.line.small w.low
+    (omega (arith, ints, w.high, most)) in
     omega (arith, ints, s.low, s.high)
 
 -- what is taken from q times a sum, put back, is q times that sum
-put_back : (c : After-weight_of-weight) (sum : ℤ) → c.args.found.value ≡ (c.args.line.q *ℤ sum -ℤ c.args.line.p *ℤ sum_over c.args.found.set c.args.sizes.now)
+put_back : (c : After-weight_of-weight) (sum : ℤ)
+    → c.args.found.value ≡ (c.args.line.q *ℤ sum -ℤ c.args.line.p *ℤ sum_over c.args.found.set
+    c.args.sizes.now)
     → (c.args.found.value +ℤ c.args.line.p *ℤ c.weight_of-weight.result) ≡ (c.args.line.q *ℤ sum)
 put_back c sum is =
     let e = ap (λ w. c.args.line.p *ℤ w) c.weight_of-weight.ensures.weight in
     omega (arith, ints, e, is)
 
 -- and fits
-back_fits : (c : After-weight_of-weight) → FitsSigned w128 (c.args.found.value +ℤ c.args.line.p *ℤ c.weight_of-weight.result)
+back_fits : (c : After-weight_of-weight)
+    → FitsSigned w128 (c.args.found.value +ℤ c.args.line.p *ℤ c.weight_of-weight.result)
 back_fits c =
     let (sum, given, is) = c.requires.value in
     let b = put_back c sum is in
@@ -33,7 +38,12 @@ back_fits c =
 pub overflow_mul-line : goal.overflow_mul-line
 overflow_mul-line c =
     let at = (goal.at.overflow_mul-line c).After-weight_of-weight in
-    let fp : FitsSigned w128 c.args.line.p = omega (arith, ints, c.args.line.small.low, c.args.line.small.high) in
+    let fp : FitsSigned w128 c.args.line.p = omega (
+      arith,
+      ints,
+      c.args.line.small.low,
+      c.args.line.small.high,
+    ) in
     let w = c.weight_of-weight.ensures in
     let most = c.requires.sizes.small in
     let fw : FitsSigned w128 c.weight_of-weight.result = omega (arith, ints, w.low, w.high, most) in
@@ -42,7 +52,12 @@ overflow_mul-line c =
 pub overflow_add-value : goal.overflow_add-value
 overflow_add-value c =
     let at = (goal.at.overflow_add-value c).After-weight_of-weight in
-    let fp : FitsSigned w128 c.args.line.p = omega (arith, ints, c.args.line.small.low, c.args.line.small.high) in
+    let fp : FitsSigned w128 c.args.line.p = omega (
+      arith,
+      ints,
+      c.args.line.small.low,
+      c.args.line.small.high,
+    ) in
     let w = c.weight_of-weight.ensures in
     let most = c.requires.sizes.small in
     let fw : FitsSigned w128 c.weight_of-weight.result = omega (arith, ints, w.low, w.high, most) in
@@ -53,14 +68,29 @@ overflow_add-value c =
 pub div_euclid-sum-requires-clause-no_overflow : goal.div_euclid-sum-requires-clause-no_overflow
 div_euclid-sum-requires-clause-no_overflow c =
     let one = c.args.line.factor.low in
-    let fq : FitsSigned w128 c.args.line.q = omega (arith, ints, c.args.line.factor.low, c.args.line.factor.high) in
+    let fq : FitsSigned w128 c.args.line.q = omega (
+      arith,
+      ints,
+      c.args.line.factor.low,
+      c.args.line.factor.high,
+    ) in
     λ e. let m = ap (to_z w128) e in absurd (omega (arith, ints, one, m))
 
 pub returns-clause-sum : goal.returns-clause-sum
 returns-clause-sum c =
     let at = (goal.at.returns-clause-sum c).After-weight_of-weight in
-    let fp : FitsSigned w128 c.args.line.p = omega (arith, ints, c.args.line.small.low, c.args.line.small.high) in
-    let fq : FitsSigned w128 c.args.line.q = omega (arith, ints, c.args.line.factor.low, c.args.line.factor.high) in
+    let fp : FitsSigned w128 c.args.line.p = omega (
+      arith,
+      ints,
+      c.args.line.small.low,
+      c.args.line.small.high,
+    ) in
+    let fq : FitsSigned w128 c.args.line.q = omega (
+      arith,
+      ints,
+      c.args.line.factor.low,
+      c.args.line.factor.high,
+    ) in
     let w = c.weight_of-weight.ensures in
     let most = c.requires.sizes.small in
     let fw : FitsSigned w128 c.weight_of-weight.result = omega (arith, ints, w.low, w.high, most) in
@@ -68,7 +98,10 @@ returns-clause-sum c =
     let fv : FitsSigned w128 c.args.found.value = search rules in
     let fb = back_fits at in
     let fr : FitsSigned w128 c.div_euclid-sum.result = search rules in
-    let is : c.div_euclid-sum.result ≡ int_div_euclid (c.args.found.value +ℤ c.args.line.p *ℤ c.weight_of-weight.result) c.args.line.q = simp to_z-of_z at c.div_euclid-sum.ensures in
+    let is : c.div_euclid-sum.result ≡ int_div_euclid
+    (c.args.found.value +ℤ c.args.line.p *ℤ c.weight_of-weight.result) c.args.line.q =
+    simp to_z-of_z at c.div_euclid-sum.ensures in
     λ sum given same.
-    let whole = is ∙ (ap (λ v. int_div_euclid v c.args.line.q) (put_back at sum same) ∙ quotient-times c.args.line.q sum c.args.line.factor.low) in
+    let whole = is ∙ (ap (λ v. int_div_euclid v c.args.line.q) (put_back at sum same)
+    ∙ quotient-times c.args.line.q sum c.args.line.factor.low) in
     simp to_z-of_z whole

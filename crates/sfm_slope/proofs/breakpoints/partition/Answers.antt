@@ -16,6 +16,7 @@ returns-clause-slopes g c =
 pub returns-clause-bases : goal.returns-clause-bases
 returns-clause-bases g c =
     let t = g.T.Term in
-    let h = rw (c.deref.ensures.value, c.in_ok-sizes.ensures.ones) at c.in_ok-breaks.ensures.bases in
+    let h = rw (c.deref.ensures.value, c.in_ok-sizes.ensures.ones) at
+    c.in_ok-breaks.ensures.bases in
     all_have_bases (meanings t.places t.value_of c.args.terms.now)
     (λ q. map (λ x. t.start_of x q) c.args.terms.now) c.args.n _ h

@@ -13,7 +13,8 @@ use Rattle.sfm_slope.proofs.least.least_at.Goals.{After-grains-q}
 
 -- 64 times the numbers of the slope
 grained : (g : given.Over) (c : After-grains-q g)
-    → (c.grains-p.result ≡ (c.args.slope.num *ℤ pos 64)) × (c.grains-q.result ≡ (c.args.slope.den *ℤ pos 64))
+    → (c.grains-p.result ≡ (c.args.slope.num *ℤ pos 64))
+    × (c.grains-q.result ≡ (c.args.slope.den *ℤ pos 64))
 grained g c =
     let s = c.args.slope in
     let fp : FitsSigned w128 s.num = omega (arith, ints, s.entry.low, s.entry.high) in
@@ -37,7 +38,9 @@ invariant_of-line-clause-factor g c =
     let s = c.args.slope in
     let q = c.grains-q.ensures.small in
     let fq : FitsSigned w128 c.grains-q.result = omega (arith, ints, q.low, q.high) in
-    let f : IsFactor c.grains-q.result = rw (grained g (goal.at.invariant_of-line-clause-factor g c).After-grains-q).1 (factor-grains s.den s.factor c.requires.few) in
+    let f : IsFactor c.grains-q.result = rw (grained g
+    (goal.at.invariant_of-line-clause-factor g c).After-grains-q).1
+    (factor-grains s.den s.factor c.requires.few) in
     let h : IsFactor (to_z w128 (of_z w128 c.grains-q.result)) = simp to_z-of_z f in
     h
 
@@ -50,7 +53,8 @@ least_on-requires-clause-graph g c =
     let fd : FitsSigned w128 s.den = omega (arith, ints, s.factor.low, s.factor.high) in
     let small = c.grains-q.ensures.small in
     let fq : FitsSigned w128 c.grains-q.result = omega (arith, ints, small.low, small.high) in
-    simp to_z-of_z (rw (grained g (goal.at.least_on-requires-clause-graph g c).After-grains-q).1 (simp to_z-of_z at c.in_ok-multiply_warm.ensures.graph))
+    simp to_z-of_z (rw (grained g (goal.at.least_on-requires-clause-graph g c).After-grains-q).1
+    (simp to_z-of_z at c.in_ok-multiply_warm.ensures.graph))
 
 pub least_on-requires-clause-small : goal.least_on-requires-clause-small
 least_on-requires-clause-small g c = c.in_ok-multiply_warm.ensures.small
@@ -59,7 +63,13 @@ pub returns-clause-search : goal.returns-clause-search
 returns-clause-search g c =
     let r = c.in_ok-multiply_warm.ensures.search in
     let o = c.in_ok-least.ensures in
-    record { first = r.first; begins = r.begins; warm = r.warm; cold = shaped o.graph; shift = o.places }
+    record {
+      first = r.first;
+      begins = r.begins;
+      warm = r.warm;
+      cold = shaped o.graph;
+      shift = o.places;
+    }
 
 pub returns-clause-least : goal.returns-clause-least
 returns-clause-least g c =
@@ -73,8 +83,10 @@ returns-clause-least g c =
     let fp : FitsSigned w128 c.grains-p.result = omega (arith, ints, p.low, p.high) in
     let fq : FitsSigned w128 c.grains-q.result = omega (arith, ints, q.low, q.high) in
     let by = grained g (goal.at.returns-clause-least g c).After-grains-q in
-    let here : IsLeast ts n (s.den *ℤ pos 64) (sized_shift sizes (s.num *ℤ pos 64)) c.in_ok-least.least.set
+    let here : IsLeast ts n (s.den *ℤ pos 64) (sized_shift sizes (s.num *ℤ pos 64))
+    c.in_ok-least.least.set
     = rw (← by.0, ← by.1) (simp to_z-of_z at c.in_ok-least.ensures.least) in
     let one = s.factor.low in
-    least_same_slope ts n sizes (s.num *ℤ pos 64) (s.den *ℤ pos 64) s.num s.den c.in_ok-least.least.set
+    least_same_slope ts n sizes (s.num *ℤ pos 64) (s.den *ℤ pos 64) s.num s.den
+    c.in_ok-least.least.set
     (omega (arith, ints, one)) one (same-grains s.num s.den) here

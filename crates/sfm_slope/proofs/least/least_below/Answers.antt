@@ -6,19 +6,26 @@ use Rattle.sfm_slope.proofs.least.least_below.Goals as goal
 pub keep_small-requires : goal.keep_small-requires
 keep_small-requires g c =
     let r = c.requires.search in
-    record { graph = rw r.warm.are_spots.count r.warm; first = rw r.warm.are_spots.count r.first; begins = r.begins }
+    record {
+      graph = rw r.warm.are_spots.count r.warm;
+      first = rw r.warm.are_spots.count r.first;
+      begins = r.begins;
+    }
 
 pub invariant_of-line-clause-small : goal.invariant_of-line-clause-small
-invariant_of-line-clause-small g c = let fp : FitsSigned w128 c.args.p = c.ranges.p in simp to_z-of_z c.requires.small
+invariant_of-line-clause-small g c =
+    let fp : FitsSigned w128 c.args.p = c.ranges.p in simp to_z-of_z c.requires.small
 
 pub invariant_of-line-clause-factor : goal.invariant_of-line-clause-factor
-invariant_of-line-clause-factor g c = record { low = omega (arith, ints); high = omega (arith, ints) }
+invariant_of-line-clause-factor g c =
+    record { low = omega (arith, ints); high = omega (arith, ints) }
 
 pub least_on-requires-clause-places : goal.least_on-requires-clause-places
 least_on-requires-clause-places g c = c.requires.search.shift
 
 pub least_on-requires-clause-graph : goal.least_on-requires-clause-graph
-least_on-requires-clause-graph g c = rw c.requires.search.warm.are_spots.count at c.in_ok-keep_small.ensures.graph
+least_on-requires-clause-graph g c =
+    rw c.requires.search.warm.are_spots.count at c.in_ok-keep_small.ensures.graph
 
 pub least_on-requires-clause-small : goal.least_on-requires-clause-small
 least_on-requires-clause-small g c = c.in_ok-keep_small.ensures.small

@@ -33,7 +33,8 @@ least_minimiser-requires-clause-proves g c = c.in_ok-z.ensures.improved.optimal.
 
 -- z is what is left of the bases
 left : (g : given.Over) (c : After-as_slice g) → let t = g.T.Term in
-    IsRest (meanings t.places t.value_of c.args.terms.now) c.args.shift.now c.improve.new.graph.bases c.as_slice.result.now
+    IsRest (meanings t.places t.value_of c.args.terms.now) c.args.shift.now
+    c.improve.new.graph.bases c.as_slice.result.now
 left g c = rw c.as_slice.ensures c.in_ok-z.ensures.improved.rest
 
 pub deficit_of-value-requires : goal.deficit_of-value-requires
@@ -41,8 +42,10 @@ deficit_of-value-requires g c =
     let t = g.T.Term in
     let b = c.requires.graph.bounded in
     let sh = c.requires.shifts in
-    rest-total t.places t.value_of c.args.terms.now c.args.shift.now c.improve.new.graph.bases c.as_slice.result.now
-    (left g (goal.at.deficit_of-value-requires g c).After-as_slice) c.in_ok-z.ensures.improved.optimal.small b.few_places b.few (omega (arith, ints, sh))
+    rest-total t.places t.value_of c.args.terms.now c.args.shift.now c.improve.new.graph.bases
+    c.as_slice.result.now
+    (left g (goal.at.deficit_of-value-requires g c).After-as_slice)
+    c.in_ok-z.ensures.improved.optimal.small b.few_places b.few (omega (arith, ints, sh))
 
 pub returns-clause-value : goal.returns-clause-value
 returns-clause-value g c =
@@ -51,11 +54,16 @@ returns-clause-value g c =
     let ts = meanings t.places t.value_of c.args.terms.now in
     let shift = c.args.shift.now in
     let n = length shift in
-    let prove : Prove ts n c.args.q shift c.improve.new.graph.bases = simp to_z-of_z at c.in_ok-z.ensures.improved.optimal.proves in
-    let least : IsLeast ts n c.args.q shift c.in_ok-set.set = simp to_z-of_z at c.in_ok-set.ensures.least in
-    let is = deficit_by_rest ts shift c.improve.new.graph.bases c.as_slice.result.now (left g (goal.at.returns-clause-value g c).After-as_slice) in
+    let prove : Prove ts n c.args.q shift c.improve.new.graph.bases = simp to_z-of_z at
+    c.in_ok-z.ensures.improved.optimal.proves in
+    let least : IsLeast ts n c.args.q shift c.in_ok-set.set = simp to_z-of_z at
+    c.in_ok-set.ensures.least in
+    let is = deficit_by_rest ts shift c.improve.new.graph.bases c.as_slice.result.now
+    (left g (goal.at.returns-clause-value g c).After-as_slice) in
     let fv : FitsSigned w128 c.deficit_of-value.result = search rules in
-    simp to_z-of_z (c.deficit_of-value.ensures ∙ (is ∙ value_by_prove ts n c.args.q shift c.improve.new.graph.bases c.in_ok-set.set prove least.minimiser))
+    simp to_z-of_z (c.deficit_of-value.ensures
+    ∙ (is ∙ value_by_prove ts n c.args.q shift c.improve.new.graph.bases c.in_ok-set.set prove
+    least.minimiser))
 
 pub returns-clause-least : goal.returns-clause-least
 returns-clause-least g c =

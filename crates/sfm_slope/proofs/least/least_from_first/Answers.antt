@@ -7,10 +7,12 @@ use Rattle.sfm_exchange.proofs.ClaimedGraphs.{shaped}
 use Rattle.sfm_slope.proofs.least.least_from_first.Goals as goal
 
 pub restart_first-requires-clause-graph : goal.restart_first-requires-clause-graph
-restart_first-requires-clause-graph g c = rw c.requires.search.cold.are_spots.count c.requires.search.cold
+restart_first-requires-clause-graph g c =
+    rw c.requires.search.cold.are_spots.count c.requires.search.cold
 
 pub restart_first-requires-clause-first : goal.restart_first-requires-clause-first
-restart_first-requires-clause-first g c = rw c.requires.search.cold.are_spots.count c.requires.search.first
+restart_first-requires-clause-first g c =
+    rw c.requires.search.cold.are_spots.count c.requires.search.first
 
 pub invariant_of-line-clause-small : goal.invariant_of-line-clause-small
 invariant_of-line-clause-small g c =
@@ -30,7 +32,8 @@ pub least_on-requires-clause-places : goal.least_on-requires-clause-places
 least_on-requires-clause-places g c = c.requires.search.shift
 
 pub least_on-requires-clause-graph : goal.least_on-requires-clause-graph
-least_on-requires-clause-graph g c = rw c.requires.search.cold.are_spots.count at c.in_ok-restart_first.ensures.graph
+least_on-requires-clause-graph g c =
+    rw c.requires.search.cold.are_spots.count at c.in_ok-restart_first.ensures.graph
 
 pub least_on-requires-clause-small : goal.least_on-requires-clause-small
 least_on-requires-clause-small g c = c.in_ok-restart_first.ensures.small
@@ -39,7 +42,13 @@ pub returns-clause-search : goal.returns-clause-search
 returns-clause-search g c =
     let r = c.requires.search in
     let o = c.in_ok-least.ensures in
-    record { first = r.first; begins = r.begins; warm = r.warm; cold = shaped o.graph; shift = o.places }
+    record {
+      first = r.first;
+      begins = r.begins;
+      warm = r.warm;
+      cold = shaped o.graph;
+      shift = o.places;
+    }
 
 pub returns-clause-least : goal.returns-clause-least
 returns-clause-least g c =

@@ -9,11 +9,13 @@ use Rattle.sfm_slope.proofs.least.least_on.Goals as goal
 use Rattle.sfm_slope.proofs.least.least_on.Goals.{After-as_slice, In_ok-least}
 
 -- the shift that is read has a number for each place
-long : (g : given.Over) (c : After-as_slice g) → length c.as_slice.result.now ≡ length c.args.sizes.now
+long : (g : given.Over) (c : After-as_slice g)
+    → length c.as_slice.result.now ≡ length c.args.sizes.now
 long g c = ap length c.as_slice.ensures.value ∙ c.set_shift.ensures.places
 
 -- it is the one that was written
-shifted : (g : given.Over) (c : In_ok-least g) → c.as_slice.result.now ≡ sized_shift c.args.sizes.now c.args.line.p
+shifted : (g : given.Over) (c : In_ok-least g)
+    → c.as_slice.result.now ≡ sized_shift c.args.sizes.now c.args.line.p
 shifted g c =
     let s = c.args.line in
     let fp : FitsSigned w128 s.p = omega (arith, ints, s.small.low, s.small.high) in
@@ -35,19 +37,23 @@ pub least_by-requires-clause-graph : goal.least_by-requires-clause-graph
 least_by-requires-clause-graph g c =
     let s = c.args.line in
     let fq : FitsSigned w128 s.q = omega (arith, ints, s.factor.low, s.factor.high) in
-    rw (long g (goal.at.least_by-requires-clause-graph g c).After-as_slice) (simp to_z-of_z c.requires.graph)
+    rw (long g (goal.at.least_by-requires-clause-graph g c).After-as_slice)
+    (simp to_z-of_z c.requires.graph)
 
 -- the set is the least minimiser at the slope
 found : (g : given.Over) (c : In_ok-least g) → let t = g.T.Term in let s = c.args.line in
-    IsLeast (meanings t.places t.value_of c.args.terms.now) (length c.args.sizes.now) s.q (sized_shift c.args.sizes.now s.p) c.in_ok-least.least.set
+    IsLeast (meanings t.places t.value_of c.args.terms.now) (length c.args.sizes.now) s.q
+    (sized_shift c.args.sizes.now s.p) c.in_ok-least.least.set
 found g c =
     let s = c.args.line in
     let fq : FitsSigned w128 s.q = omega (arith, ints, s.factor.low, s.factor.high) in
-    rw (shifted g c, length-map c.args.sizes.now _) at (simp to_z-of_z at c.in_ok-least.ensures.least)
+    rw (shifted g c, length-map c.args.sizes.now _) at
+    (simp to_z-of_z at c.in_ok-least.ensures.least)
 
 -- and attains the least value there
 attains : (g : given.Over) (c : In_ok-least g) → let t = g.T.Term in let s = c.args.line in
-    c.in_ok-least.least.value ≡ shifted_at (meanings t.places t.value_of c.args.terms.now) s.q (sized_shift c.args.sizes.now s.p) c.in_ok-least.least.set
+    c.in_ok-least.least.value ≡ shifted_at (meanings t.places t.value_of c.args.terms.now) s.q
+    (sized_shift c.args.sizes.now s.p) c.in_ok-least.least.set
 attains g c =
     let s = c.args.line in
     let fq : FitsSigned w128 s.q = omega (arith, ints, s.factor.low, s.factor.high) in
@@ -62,21 +68,25 @@ worth_by-requires g c =
     let least = c.in_ok-least.least in
     record {
       sizes = rw (found g at).minimiser.places c.requires.sizes;
-      value = attained_by t.places t.value_of t.size_of m.bounded (λ y. (m.submodular y).at_empty) c.args.terms.now
-          c.requires.graph.bounded.small c.args.sizes.now s.p s.q least.value least.set (attains g at);
+      value = attained_by t.places t.value_of t.size_of m.bounded (λ y. (m.submodular y).at_empty)
+          c.args.terms.now
+          c.requires.graph.bounded.small c.args.sizes.now s.p s.q least.value least.set
+          (attains g at);
     }
 
 pub returns-clause-graph : goal.returns-clause-graph
 returns-clause-graph g c =
     let s = c.args.line in
     let fq : FitsSigned w128 s.q = omega (arith, ints, s.factor.low, s.factor.high) in
-    rw (long g (goal.at.returns-clause-graph g c).After-as_slice) at (simp to_z-of_z at c.in_ok-least.ensures.graph)
+    rw (long g (goal.at.returns-clause-graph g c).After-as_slice) at
+    (simp to_z-of_z at c.in_ok-least.ensures.graph)
 
 pub returns-clause-places : goal.returns-clause-places
 returns-clause-places g c = c.set_shift.ensures.places
 
 pub returns-clause-least : goal.returns-clause-least
-returns-clause-least g c = rw c.worth_by.ensures.same (found g (goal.at.returns-clause-least g c).In_ok-least)
+returns-clause-least g c = rw c.worth_by.ensures.same
+    (found g (goal.at.returns-clause-least g c).In_ok-least)
 
 pub returns-clause-worth : goal.returns-clause-worth
 returns-clause-worth g c =
@@ -86,6 +96,7 @@ returns-clause-worth g c =
     let at = (goal.at.returns-clause-worth g c).In_ok-least in
     let least = c.in_ok-least.least in
     let e = c.worth_by.ensures in
-    attained_worth t.places t.value_of t.size_of m.bounded (λ y. (m.submodular y).at_empty) c.args.terms.now
+    attained_worth t.places t.value_of t.size_of m.bounded (λ y. (m.submodular y).at_empty)
+    c.args.terms.now
     c.requires.graph.bounded.small c.args.sizes.now s.p s.q least.value least.set (attains g at)
     c.worth_by.result (found g at).minimiser.allowed e.same e.size e.weight e.sum

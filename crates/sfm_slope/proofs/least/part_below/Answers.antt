@@ -15,6 +15,7 @@ returns-clause-least c =
     let times : p ≡ (s.num *ℤ pos 64) = simp to_z-of_z at c.grains.ensures.times in
     let fq : FitsSigned w128 s.den = omega (arith, ints, s.factor.low, s.factor.high) in
     let fr : FitsSigned w128 c.div_euclid.result = search rules in
-    let is : c.div_euclid.result ≡ int_div_euclid p s.den = simp to_z-of_z at c.div_euclid.ensures in
+    let is : c.div_euclid.result ≡ int_div_euclid p s.den = simp to_z-of_z at
+    c.div_euclid.ensures in
     let low : (s.den *ℤ c.div_euclid.result) ≤ℤ p = rw is (floor-least p s.den s.factor.low) in
     simp to_z-of_z (rw (← times) low)

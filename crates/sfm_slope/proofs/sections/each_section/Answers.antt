@@ -9,8 +9,12 @@ loop-point-preserved g c =
     let o = c.in_ok-section.ensures in
     record {
       search = o.search;
-      behind = rw c.in_ok-push.ensures.items (behind_more c.args.found.now c.loop-point.point-index c.point-item.result c.in_ok-section.field-0 c.loop-point.breaks.items c.loop-point-test.true c.point-item.is c.loop-point.invariant.behind o.found);
+      behind = rw c.in_ok-push.ensures.items
+          (behind_more c.args.found.now c.loop-point.point-index c.point-item.result
+          c.in_ok-section.field-0 c.loop-point.breaks.items c.loop-point-test.true c.point-item.is
+          c.loop-point.invariant.behind o.found);
     }
 
 pub returns-clause-behind : goal.returns-clause-behind
-returns-clause-behind g c = behind_all c.args.found.now c.loop-point.point-index c.loop-point.breaks.items c.loop-point-test.false c.loop-point.invariant.behind
+returns-clause-behind g c = behind_all c.args.found.now c.loop-point.point-index
+    c.loop-point.breaks.items c.loop-point-test.false c.loop-point.invariant.behind

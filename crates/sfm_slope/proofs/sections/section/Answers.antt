@@ -30,16 +30,22 @@ set_shift-requires-clause-small g c =
     simp to_z-of_z (record { low = omega (arith, ints, r.low); high = omega (arith, ints, r.high) })
 
 pub minimise_from_start-requires-clause-bounded : goal.minimise_from_start-requires-clause-bounded
-minimise_from_start-requires-clause-bounded g c = rw (long g (goal.at.minimise_from_start-requires-clause-bounded g c).After-deref) c.requires.search.first.bounded
+minimise_from_start-requires-clause-bounded g c =
+    rw (long g (goal.at.minimise_from_start-requires-clause-bounded g c).After-deref)
+    c.requires.search.first.bounded
 
 pub minimise_from_start-requires-clause-shifts : goal.minimise_from_start-requires-clause-shifts
 minimise_from_start-requires-clause-shifts g c = rw c.deref.ensures.value c.set_shift.ensures.small
 
 pub minimise_from_start-requires-clause-graph : goal.minimise_from_start-requires-clause-graph
-minimise_from_start-requires-clause-graph g c = rw (long g (goal.at.minimise_from_start-requires-clause-graph g c).After-deref) c.requires.search.cold
+minimise_from_start-requires-clause-graph g c =
+    rw (long g (goal.at.minimise_from_start-requires-clause-graph g c).After-deref)
+    c.requires.search.cold
 
 pub minimise_from_start-requires-clause-firsts : goal.minimise_from_start-requires-clause-firsts
-minimise_from_start-requires-clause-firsts g c = rw (long g (goal.at.minimise_from_start-requires-clause-firsts g c).After-deref) c.requires.search.first
+minimise_from_start-requires-clause-firsts g c =
+    rw (long g (goal.at.minimise_from_start-requires-clause-firsts g c).After-deref)
+    c.requires.search.first
 
 pub minimise_from_start-requires-clause-begins : goal.minimise_from_start-requires-clause-begins
 minimise_from_start-requires-clause-begins g c = c.requires.search.begins
@@ -65,5 +71,11 @@ returns-clause-found g c =
     let few = rw (same, length-map c.args.sizes.now _) at h.few in
     record {
       mark = search rules;
-      bases = record { bases = simp to_z-of_z at h.optimal.bases; small = h.optimal.small; proves = simp to_z-of_z at proves; reached = simp to_z-of_z at few; few = c.requires.range.few };
+      bases = record {
+        bases = simp to_z-of_z at h.optimal.bases;
+        small = h.optimal.small;
+        proves = simp to_z-of_z at proves;
+        reached = simp to_z-of_z at few;
+        few = c.requires.range.few;
+      };
     }

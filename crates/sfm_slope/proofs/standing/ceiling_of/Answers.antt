@@ -19,6 +19,10 @@ loop-point-preserved c =
     let one : before ≤ℤ m = omega (arith, ints, clamps, is) in
     let two : here ≤ℤ m = omega (arith, ints, clamps, is) in
     simp to_z-of_z (
-      record { low = omega (arith, ints, one, inv.0.low); high = omega (arith, ints, clamps, is, inv.0.high, small.high) },
-      high_more c.args.found.now c.loop-point.point-index before here m point c.loop-point-test.true c.point-item.is one two c.ceiling.ensures.high inv.1,
+      record {
+        low = omega (arith, ints, one, inv.0.low);
+        high = omega (arith, ints, clamps, is, inv.0.high, small.high);
+      },
+      high_more c.args.found.now c.loop-point.point-index before here m point c.loop-point-test.true
+          c.point-item.is one two c.ceiling.ensures.high inv.1,
     )

@@ -6,4 +6,5 @@ use Rattle.sfm_slope.proofs.standing.ceiling_of.Given as goal
 
 abbrev pub invariant-loop-point : goal.invariant-loop-point
 invariant-loop-point l = IsAtMost (10 ^ 19) l.high
-    × ((k : ℕ) (d : Breakpoint) → k < l.point-index → (get_or l.found k d).slope.num ≤ℤ ((get_or l.found k d).slope.den *ℤ l.high))
+    × ((k : ℕ) (d : Breakpoint) → k < l.point-index
+    → (get_or l.found k d).slope.num ≤ℤ ((get_or l.found k d).slope.den *ℤ l.high))

@@ -22,6 +22,10 @@ loop-point-preserved c =
     let one : m ≤ℤ before = omega (arith, ints, clamps, is) in
     let two : m ≤ℤ here = omega (arith, ints, clamps, is) in
     simp to_z-of_z (
-      record { low = omega (arith, ints, clamps, is, inv.0.low, small.low); high = omega (arith, ints, one, inv.0.high) },
-      low_more c.args.found.now c.loop-point.point-index before here m point c.loop-point-test.true c.point-item.is one two (simp to_z-of_z at c.whole_below.ensures.low) inv.1,
+      record {
+        low = omega (arith, ints, clamps, is, inv.0.low, small.low);
+        high = omega (arith, ints, one, inv.0.high);
+      },
+      low_more c.args.found.now c.loop-point.point-index before here m point c.loop-point-test.true
+          c.point-item.is one two (simp to_z-of_z at c.whole_below.ensures.low) inv.1,
     )

@@ -5,4 +5,5 @@ pub returns-clause-is : goal.returns-clause-is
 returns-clause-is c = few_is c.args.n c.args.m
 
 pub returns-clause-small : goal.returns-clause-small
-returns-clause-small c = rw (few_is c.args.n c.args.m) (few_small c.args.n c.args.m c.requires.places c.requires.terms)
+returns-clause-small c = rw (few_is c.args.n c.args.m)
+    (few_small c.args.n c.args.m c.requires.places c.requires.terms)

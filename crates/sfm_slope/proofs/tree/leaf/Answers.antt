@@ -13,7 +13,8 @@ walk_on-requires-clause-chain g c =
     let s = c.args.point.now.slope in
     let at = c.args.at.now in
     let shift = sized_shift c.args.sizes.now s.num in
-    subst (λ z. IsWalkChain ts s.den shift at.walks z (rows_times s.den at.graph.bases)) (starts_times t.start_of m.starts_times s.den c.args.terms.now)
+    subst (λ z. IsWalkChain ts s.den shift at.walks z (rows_times s.den at.graph.bases))
+    (starts_times t.start_of m.starts_times s.den c.args.terms.now)
     (c.requires.standing.reached 0 c.args.point.now (omega arith))
 
 pub returns-in-Some-clause-found : goal.returns-in-Some-clause-found
@@ -21,5 +22,11 @@ returns-in-Some-clause-found g c =
     let s = rw c.in-Some.is at c.in_ok-bases.ensures.section in
     record {
       mark = search rules;
-      bases = record { bases = s.bases; small = s.small; proves = s.proves; reached = s.reached; few = c.requires.range.few };
+      bases = record {
+        bases = s.bases;
+        small = s.small;
+        proves = s.proves;
+        reached = s.reached;
+        few = c.requires.range.few;
+      };
     }

@@ -12,11 +12,17 @@ rise_fits : (a b : ℤ) → IsGiven a → IsGiven b → FitsSigned w128 (b -ℤ 
 rise_fits a b ha hb = omega (arith, ints, ha.low, ha.high, hb.low, hb.high)
 
 rise_entry : (a b : ℤ) → IsGiven a → IsGiven b → IsEntry (b -ℤ a)
-rise_entry a b ha hb = record { low = omega (arith, ints, ha.low, hb.low, ha.high, hb.high); high = omega (arith, ints, ha.low, hb.low, ha.high, hb.high) }
+rise_entry a b ha hb = record {
+  low = omega (arith, ints, ha.low, hb.low, ha.high, hb.high);
+  high = omega (arith, ints, ha.low, hb.low, ha.high, hb.high);
+}
 
 -- the difference of two weights
 width_factor : (a b : ℤ) → pos 0 ≤ℤ a → a <ℤ b → b ≤ℤ pos (10 ^ 6) → IsFactor (b -ℤ a)
-width_factor a b low l high = record { low = omega (arith, ints, l); high = omega (arith, ints, low, high) }
+width_factor a b low l high = record {
+  low = omega (arith, ints, l);
+  high = omega (arith, ints, low, high);
+}
 
 pub overflow_sub-rise : goal.overflow_sub-rise
 overflow_sub-rise c =
@@ -31,7 +37,8 @@ new-requires-clause-entry c =
     let r = c.requires in
     let fl : FitsSigned w128 c.args.low.now.sum = given_fits _ r.low_small in
     let fh : FitsSigned w128 c.args.high.now.sum = given_fits _ r.high_small in
-    let fits : FitsSigned w128 (c.args.high.now.sum -ℤ c.args.low.now.sum) = rise_fits _ _ r.low_small r.high_small in
+    let fits : FitsSigned w128 (c.args.high.now.sum -ℤ c.args.low.now.sum) = rise_fits _ _
+    r.low_small r.high_small in
     simp to_z-of_z (rise_entry _ _ r.low_small r.high_small)
 
 pub new-requires-clause-factor : goal.new-requires-clause-factor
@@ -54,5 +61,11 @@ returns c =
     let rise : FitsSigned w128 (b.sum -ℤ a.sum) = rise_fits _ _ r.low_small r.high_small in
     let fa : FitsSigned w128 a.weight = omega (arith, ints, r.low, r.larger, r.high) in
     let fb : FitsSigned w128 b.weight = omega (arith, ints, r.low, r.larger, r.high) in
-    let width : FitsSigned w128 (b.weight -ℤ a.weight) = omega (arith, ints, r.low, r.larger, r.high) in
+    let width : FitsSigned w128 (b.weight -ℤ a.weight) = omega (
+      arith,
+      ints,
+      r.low,
+      r.larger,
+      r.high,
+    ) in
     simp to_z-of_z at c.new.ensures.same

@@ -35,7 +35,8 @@ returns-then-least-low-clause-turn g c =
     let same = sym c.in_ok-least.ensures.worth.size ∙ c.if-least-low.true in
     let least = c.in_ok-least.ensures.least in
     rw c.in_ok-copy.ensures
-    (turn_next fit r.sizes r.low_worth r.high_worth r.begun r.gap slope.result slope.ensures least same)
+    (turn_next fit r.sizes r.low_worth r.high_worth r.begun r.gap slope.result slope.ensures least
+    same)
 
 pub returns-clause-turn : goal.returns-clause-turn
 returns-clause-turn g c =
@@ -44,6 +45,8 @@ returns-clause-turn g c =
     let fit = are_terms r.search.first m.family m.submodular in
     let slope = c.slope_between-slope in
     let found = c.in_ok-least.ensures in
-    let apart : size c.in_ok-least.least.set ≡ c.args.low.now.size → ⊥ = λ e. c.if-least-low.false (found.worth.size ∙ e) in
-    let two = turn_between fit r.sizes r.low_worth r.high_worth r.begun r.gap slope.result slope.ensures found.least apart in
+    let apart : size c.in_ok-least.least.set ≡ c.args.low.now.size
+    → ⊥ = λ e. c.if-least-low.false (found.worth.size ∙ e) in
+    let two = turn_between fit r.sizes r.low_worth r.high_worth r.begun r.gap slope.result
+    slope.ensures found.least apart in
     (two.0, two.1, found.worth)

@@ -13,4 +13,9 @@ value-requires g c = rw (c.in_ok-take_part.ensures, c.elements.ensures) (length-
 pub returns : goal.returns
 returns g c =
     let fr : FitsSigned w128 c.unwrap_or.result = record { sfits = c.unwrap_or.type_inv } in
-    simp to_z-of_z (rw (c.unwrap_or.ensures, c.in_ok-value.ensures.value, c.in_ok-take_part.ensures, c.elements.ensures) refl)
+    simp to_z-of_z (rw (
+      c.unwrap_or.ensures,
+      c.in_ok-value.ensures.value,
+      c.in_ok-take_part.ensures,
+      c.elements.ensures,
+    ) refl)

@@ -24,9 +24,11 @@ cancels a f some = let za : passed a ≡ a = to_z-of_z w128 a f in omega (arith,
 
 -- the demand gives the amount on along its link
 linked : (c : In-Some) → c.loop-link.invariant.here.link ≡ Some c.in-Some.link
-linked c = sym (c.link_of.ensures c.loop-link.invariant.here c.loop-link.invariant.is_here) ∙ c.in-Some.is
+linked c = sym (c.link_of.ensures c.loop-link.invariant.here c.loop-link.invariant.is_here)
+    ∙ c.in-Some.is
 
-passes : (c : In-Some) → Passes c.args.cells.now.whos.items c.loop-link.y c.in-Some.link (passed c.args.a) (minus c.args.a) (pos (10 ^ 24))
+passes : (c : In-Some) → Passes c.args.cells.now.whos.items c.loop-link.y c.in-Some.link
+    (passed c.args.a) (minus c.args.a) (pos (10 ^ 24))
 passes c =
     let nodes = c.args.nodes.now in
     let (m, cells) = c.requires.cells in
@@ -34,11 +36,21 @@ passes c =
     let za : passed c.args.a ≡ c.args.a = to_z-of_z w128 c.args.a f in
     let some = c.requires.some in
     let room = c.requires.room in
-    moving_passes (length nodes) m c.args.cells.now.whos.items c.args.cells.now.slots.items nodes c.args.lacks.now c.args.last (passed c.args.a) c.args.y.now c.loop-link.y c.loop-link.who cells c.requires.same c.requires.tree c.loop-link.invariant (pos (10 ^ 24)) c.requires.small (omega (arith, ints, za, room)) (omega (arith, ints, za, some)) c.in-Some.link (linked c) (minus c.args.a) (cancels c.args.a c.ranges.a c.requires.some)
+    moving_passes (length nodes) m c.args.cells.now.whos.items c.args.cells.now.slots.items nodes
+    c.args.lacks.now c.args.last (passed c.args.a) c.args.y.now c.loop-link.y c.loop-link.who
+    cells c.requires.same c.requires.tree c.loop-link.invariant (pos (10 ^ 24)) c.requires.small
+    (omega (arith, ints, za, room)) (omega (arith, ints, za, some)) c.in-Some.link (linked c)
+    (minus c.args.a) (cancels c.args.a c.ranges.a c.requires.some)
 
 -- then the next demand on the way holds it
-next : (c : In-Some) → IsMoving c.args.cells.now.whos.items c.args.cells.now.slots.items c.args.nodes.now c.args.lacks.now c.args.last (passed c.args.a) c.args.y.now
-    (set (set c.loop-link.y c.in-Some.link.own (amount_at c.loop-link.y c.in-Some.link.own +ℤ minus c.args.a)) c.in-Some.link.other (amount_at (set c.loop-link.y c.in-Some.link.own (amount_at c.loop-link.y c.in-Some.link.own +ℤ minus c.args.a)) c.in-Some.link.other +ℤ passed c.args.a)) (label_at c.args.cells.now.whos.items c.in-Some.link.other)
+next : (c : In-Some) → IsMoving c.args.cells.now.whos.items c.args.cells.now.slots.items
+    c.args.nodes.now c.args.lacks.now c.args.last (passed c.args.a) c.args.y.now
+    (set (set c.loop-link.y c.in-Some.link.own
+    (amount_at c.loop-link.y c.in-Some.link.own +ℤ minus c.args.a)) c.in-Some.link.other
+    (amount_at (set c.loop-link.y c.in-Some.link.own
+    (amount_at c.loop-link.y c.in-Some.link.own +ℤ minus c.args.a))
+    c.in-Some.link.other +ℤ passed c.args.a))
+    (label_at c.args.cells.now.whos.items c.in-Some.link.other)
 next c =
     let nodes = c.args.nodes.now in
     let z = c.loop-link.y in
@@ -50,7 +62,10 @@ next c =
     let none = cancels c.args.a c.ranges.a c.requires.some in
     let u : ℤ = amount_at z l.own +ℤ minus c.args.a in
     let w : ℤ = amount_at (set z l.own u) l.other +ℤ passed c.args.a in
-    moving_step (length nodes) m c.args.cells.now.whos.items c.args.cells.now.slots.items nodes c.args.lacks.now c.args.last (passed c.args.a) c.args.y.now z c.loop-link.who cells c.requires.same c.requires.tree c.loop-link.invariant l (linked c) u w (omega (arith, ints, none)) refl (omega (arith, ints, za, some))
+    moving_step (length nodes) m c.args.cells.now.whos.items c.args.cells.now.slots.items nodes
+    c.args.lacks.now c.args.last (passed c.args.a) c.args.y.now z c.loop-link.who cells
+    c.requires.same c.requires.tree c.loop-link.invariant l (linked c) u w
+    (omega (arith, ints, none)) refl (omega (arith, ints, za, some))
 
 pub put-requires-clause-high : goal.put-requires-clause-high
 put-requires-clause-high c =
@@ -60,7 +75,8 @@ put-requires-clause-high c =
     let same = c.requires.same in
     let h = cells.same in
     let lt = c.requires.last in
-    let b = sum_at-holds slots y c.args.last c.requires.amounts (same ∙ sym h) (omega (arith, h, lt)) in
+    let b = sum_at-holds slots y c.args.last c.requires.amounts (same ∙ sym h)
+    (omega (arith, h, lt)) in
     let f : FitsSigned w128 c.args.a = c.ranges.a in
     let r = c.requires.room in
     omega (arith, ints, b, r)
@@ -73,14 +89,26 @@ loop-link-init c =
     let a = c.args.a in
     let (m, cells) = c.requires.cells in
     let za = to_z-of_z w128 a c.ranges.a in
-    let v = get_or_read whos c.args.last c.index-who.result.now c.requires.last c.index-who.ensures 0 in
-    rw (c.put.ensures, za, v) (moving_begun (length nodes) m whos c.args.cells.now.slots.items nodes c.args.lacks.now c.args.last a (amount_at y c.args.last +ℤ a) y cells c.requires.same c.requires.amounts c.requires.last c.requires.some c.requires.way refl)
+    let v = get_or_read whos c.args.last c.index-who.result.now c.requires.last c.index-who.ensures
+    0 in
+    rw (c.put.ensures, za, v) (moving_begun (length nodes) m whos c.args.cells.now.slots.items nodes
+    c.args.lacks.now c.args.last a (amount_at y c.args.last +ℤ a) y cells c.requires.same
+    c.requires.amounts c.requires.last c.requires.some c.requires.way refl)
 
 pub put-requires-in-Some : goal.put-requires-in-Some
-put-requires-in-Some c = let p = passes (goal.at.put-requires-in-Some c).In-Some in let low = p.own_low in let high = p.own_high in record { place = p.own_z; low = omega (arith, ints, low); high = omega (arith, ints, high) }
+put-requires-in-Some c = let p = passes
+    (goal.at.put-requires-in-Some c).In-Some in let low = p.own_low in let high =
+    p.own_high in record {
+      place = p.own_z;
+      low = omega (arith, ints, low);
+      high = omega (arith, ints, high);
+    }
 
 pub put-requires-in-Some-2 : goal.put-requires-in-Some-2
-put-requires-in-Some-2 c = let p = passes (goal.at.put-requires-in-Some-2 c).In-Some in let low = p.other_low in let high = p.other_high in rw c.put-in-Some.ensures (record { place = p.other_z; low = omega (arith, ints, low); high = omega (arith, ints, high) })
+put-requires-in-Some-2 c = let p = passes
+    (goal.at.put-requires-in-Some-2 c).In-Some in let low = p.other_low in let high =
+    p.other_high in rw c.put-in-Some.ensures
+    (record { place = p.other_z; low = omega (arith, ints, low); high = omega (arith, ints, high) })
 
 pub index-who-requires-in-Some : goal.index-who-requires-in-Some
 index-who-requires-in-Some c =
@@ -96,9 +124,12 @@ loop-link-smaller c =
     let inv = c.loop-link.invariant in
     let l = c.in-Some.link in
     let (m, cells) = c.requires.cells in
-    let v = get_or_read whos l.other c.index-who-in-Some.result.now (passes here).other_in c.index-who-in-Some.ensures 0 in
+    let v = get_or_read whos l.other c.index-who-in-Some.result.now (passes here).other_in
+    c.index-who-in-Some.ensures 0 in
     let then = next here in
-    let lower = moving_lower (length nodes) m whos c.args.cells.now.slots.items nodes c.args.lacks.now c.args.last (passed c.args.a) c.args.y.now c.loop-link.y c.loop-link.who cells c.requires.same c.requires.tree inv l (linked here) then.here then.is_here in
+    let lower = moving_lower (length nodes) m whos c.args.cells.now.slots.items nodes
+    c.args.lacks.now c.args.last (passed c.args.a) c.args.y.now c.loop-link.y c.loop-link.who
+    cells c.requires.same c.requires.tree inv l (linked here) then.here then.is_here in
     let b = level_some (node_at nodes c.loop-link.who) inv.here inv.is_here in
     let d = level_some (node_at nodes (label_at whos l.other)) then.here then.is_here in
     let e = ap (λ i. level_of (node_at nodes i)) v in
@@ -107,7 +138,8 @@ loop-link-smaller c =
 pub loop-link-preserved : goal.loop-link-preserved
 loop-link-preserved c =
     let here = (goal.at.loop-link-preserved c).In-Some in
-    let v = get_or_read c.args.cells.now.whos.items c.in-Some.link.other c.index-who-in-Some.result.now (passes here).other_in c.index-who-in-Some.ensures 0 in
+    let v = get_or_read c.args.cells.now.whos.items c.in-Some.link.other
+    c.index-who-in-Some.result.now (passes here).other_in c.index-who-in-Some.ensures 0 in
     rw (c.put-in-Some-2.ensures, c.put-in-Some.ensures, v) (next here)
 
 pub take-requires-clause-place : goal.take-requires-clause-place
@@ -122,7 +154,8 @@ take-requires-clause-enough c =
     let nodes = c.args.nodes.now in
     let inv = c.loop-link.invariant in
     let none = sym (c.link_of.ensures inv.here inv.is_here) ∙ c.in_default.is in
-    carries_end c.args.cells.now.whos.items nodes c.args.y.now c.args.lacks.now (to_z w128 (of_z w128 c.args.a)) c.loop-link.who inv.here inv.way inv.is_here none
+    carries_end c.args.cells.now.whos.items nodes c.args.y.now c.args.lacks.now
+    (to_z w128 (of_z w128 c.args.a)) c.loop-link.who inv.here inv.way inv.is_here none
 
 pub returns : goal.returns
 returns c =
@@ -133,5 +166,8 @@ returns c =
     let inv = c.loop-link.invariant in
     let (m, cells) = c.requires.cells in
     let za = to_z-of_z w128 c.args.a c.ranges.a in
-    let (r, root) = rw za at (moving_done (length nodes) m whos slots nodes lacks c.args.last (to_z w128 (of_z w128 c.args.a)) c.args.y.now c.loop-link.y c.loop-link.who cells c.requires.same c.requires.tree inv (sym (c.link_of.ensures inv.here inv.is_here) ∙ c.in_default.is)) in
+    let (r, root) = rw za at (moving_done (length nodes) m whos slots nodes lacks c.args.last
+    (to_z w128 (of_z w128 c.args.a)) c.args.y.now c.loop-link.y c.loop-link.who cells
+    c.requires.same c.requires.tree inv
+    (sym (c.link_of.ensures inv.here inv.is_here) ∙ c.in_default.is)) in
     (r, rw (root, ← za) c.take.ensures)

@@ -39,8 +39,14 @@ raise_all-requires c =
     let left = c.turn.new.left in
     let told = c.in_ok-turn.ensures in
     let y = c.begin.new.work.y in
-    let q = written c.turn.new.y (drop (length c.turn.new.y) y.items) y.len (wide (goal.at.raise_all-requires c).In_ok-turn) in
-    record { within = rw (c.all-cells.ensures, c.deref_mut-2.ensures.value ∙ q) (standing_within aim.demands.now aim.capacities.now cells.whos.items cells.slots.items c.turn.new.y left.lacks.items left.rooms.items (rw c.all-cells.ensures at told.stands)); listed = told.listed }
+    let q = written c.turn.new.y (drop (length c.turn.new.y) y.items) y.len
+    (wide (goal.at.raise_all-requires c).In_ok-turn) in
+    record {
+      within = rw (c.all-cells.ensures, c.deref_mut-2.ensures.value ∙ q)
+          (standing_within aim.demands.now aim.capacities.now cells.whos.items cells.slots.items
+          c.turn.new.y left.lacks.items left.rooms.items (rw c.all-cells.ensures at told.stands));
+      listed = told.listed;
+    }
 
 -- the amounts where the searches begin
 abbrev begun : List ℤ → List ℤ → ℕ → List ℤ
@@ -48,21 +54,29 @@ begun z y n = take n (z ++ drop (length z) y)
 
 -- the amounts are raised as far as they go
 raised : (c : In_ok-told) → length c.turn.new.y ≡ c.begin.new.work.y.len
-    → IsPouring c.args.aim.now.demands.now c.args.aim.now.capacities.now c.args.shares.now.cells.whos.items c.args.shares.now.cells.slots.items c.turn.new.y c.raise_all.new.y c.raise_all.new.left.lacks.items c.raise_all.new.left.rooms.items
+    → IsPouring c.args.aim.now.demands.now c.args.aim.now.capacities.now
+    c.args.shares.now.cells.whos.items c.args.shares.now.cells.slots.items c.turn.new.y
+    c.raise_all.new.y c.raise_all.new.left.lacks.items c.raise_all.new.left.rooms.items
 raised c long =
     let aim = c.args.aim.now in
     let cells = c.args.shares.now.cells in
     let left = c.turn.new.left in
     let told = rw c.all-cells.ensures at c.in_ok-turn.ensures.stands in
     let y = c.begin.new.work.y in
-    let q = c.deref_mut-2.ensures.value ∙ written c.turn.new.y (drop (length c.turn.new.y) y.items) y.len long in
-    (rw (c.all-cells.ensures, q) at c.in_ok-told.ensures.raised).each aim.demands.now aim.capacities.now c.turn.new.y told.cells (standing_pouring aim.demands.now aim.capacities.now cells.whos.items cells.slots.items c.turn.new.y left.lacks.items left.rooms.items told)
+    let q = c.deref_mut-2.ensures.value ∙ written c.turn.new.y (drop (length c.turn.new.y) y.items)
+    y.len long in
+    (rw (c.all-cells.ensures, q) at c.in_ok-told.ensures.raised).each aim.demands.now
+    aim.capacities.now c.turn.new.y told.cells
+    (standing_pouring aim.demands.now aim.capacities.now cells.whos.items cells.slots.items
+    c.turn.new.y left.lacks.items left.rooms.items told)
 
 -- as many are written back
-back : (c : In_ok-told) → length c.turn.new.y ≡ c.begin.new.work.y.len → length c.raise_all.new.y ≡ c.begin.new.work.y.len
+back : (c : In_ok-told) → length c.turn.new.y ≡ c.begin.new.work.y.len
+    → length c.raise_all.new.y ≡ c.begin.new.work.y.len
 back c long =
     let y = c.begin.new.work.y in
-    let q = c.deref_mut-2.ensures.value ∙ written c.turn.new.y (drop (length c.turn.new.y) y.items) y.len long in
+    let q = c.deref_mut-2.ensures.value ∙ written c.turn.new.y (drop (length c.turn.new.y) y.items)
+    y.len long in
     c.raise_all.auto.y ∙ (ap length q ∙ long)
 
 pub returns-in-Some-clause-met : goal.returns-in-Some-clause-met
@@ -71,9 +85,12 @@ returns-in-Some-clause-met c =
     let aim = c.args.aim.now in
     let p = raised path.In_ok-told (wide path.In_ok-turn) in
     let end = rw (c.all-cells.ensures, c.in-Some.is) at c.in_ok-told.ensures.told in
-    let told = end.each aim.demands.now aim.capacities.now c.turn.new.y (rw c.all-cells.ensures at c.in_ok-turn.ensures.stands).cells p in
+    let told = end.each aim.demands.now aim.capacities.now c.turn.new.y
+    (rw c.all-cells.ensures at c.in_ok-turn.ensures.stands).cells p in
     let part = rw (c.requires.met.in_order, c.requires.met.in_lists) at p.part in
-    let lacking : IsLacking aim.demands.now aim.capacities.now (owners 0 c.args.demand.now.lists) (joined c.args.demand.now.lists) c.raise_all.new.y c.in-Some.set = rw (c.requires.met.in_order, c.requires.met.in_lists) at told in
+    let lacking : IsLacking aim.demands.now aim.capacities.now (owners 0 c.args.demand.now.lists)
+    (joined c.args.demand.now.lists) c.raise_all.new.y c.in-Some.set =
+    rw (c.requires.met.in_order, c.requires.met.in_lists) at told in
     lacking_end _ c.raise_all.new.y c.in-Some.set c.requires.sound part lacking
 
 pub returns-clause-met : goal.returns-clause-met
@@ -83,18 +100,33 @@ returns-clause-met c =
     let long = wide path.In_ok-turn in
     let p = raised path.In_ok-told long in
     let end = rw (c.all-cells.ensures, c.in_default.is) at c.in_ok-told.ensures.told in
-    let met = end.each aim.demands.now aim.capacities.now c.turn.new.y (rw c.all-cells.ensures at c.in_ok-turn.ensures.stands).cells p in
-    let q = written c.raise_all.new.y (drop (length c.raise_all.new.y) (begun c.turn.new.y c.begin.new.work.y.items c.begin.new.work.y.len)) c.begin.new.work.y.len (back path.In_ok-told long) in
-    record { in_order = c.requires.met.in_order; in_lists = c.requires.met.in_lists; part = rw q p.part; met = rw q met }
+    let met = end.each aim.demands.now aim.capacities.now c.turn.new.y
+    (rw c.all-cells.ensures at c.in_ok-turn.ensures.stands).cells p in
+    let q = written c.raise_all.new.y
+    (drop (length c.raise_all.new.y)
+    (begun c.turn.new.y c.begin.new.work.y.items c.begin.new.work.y.len)) c.begin.new.work.y.len
+    (back path.In_ok-told long) in
+    record {
+      in_order = c.requires.met.in_order;
+      in_lists = c.requires.met.in_lists;
+      part = rw q p.part;
+      met = rw q met;
+    }
 
 pub returns-clause-lacks : goal.returns-clause-lacks
 returns-clause-lacks c =
     let path = goal.at.returns-clause-lacks c in
     let long = wide path.In_ok-turn in
-    rw (written c.raise_all.new.y (drop (length c.raise_all.new.y) (begun c.turn.new.y c.begin.new.work.y.items c.begin.new.work.y.len)) c.begin.new.work.y.len (back path.In_ok-told long)) (raised path.In_ok-told long).lacks_are
+    rw (written c.raise_all.new.y
+    (drop (length c.raise_all.new.y)
+    (begun c.turn.new.y c.begin.new.work.y.items c.begin.new.work.y.len)) c.begin.new.work.y.len
+    (back path.In_ok-told long)) (raised path.In_ok-told long).lacks_are
 
 pub returns-clause-rooms : goal.returns-clause-rooms
 returns-clause-rooms c =
     let path = goal.at.returns-clause-rooms c in
     let long = wide path.In_ok-turn in
-    rw (written c.raise_all.new.y (drop (length c.raise_all.new.y) (begun c.turn.new.y c.begin.new.work.y.items c.begin.new.work.y.len)) c.begin.new.work.y.len (back path.In_ok-told long)) (raised path.In_ok-told long).rooms_are
+    rw (written c.raise_all.new.y
+    (drop (length c.raise_all.new.y)
+    (begun c.turn.new.y c.begin.new.work.y.items c.begin.new.work.y.len)) c.begin.new.work.y.len
+    (back path.In_ok-told long)) (raised path.In_ok-told long).rooms_are

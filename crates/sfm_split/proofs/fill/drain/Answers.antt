@@ -9,7 +9,8 @@ loop-e-init c =
     let cells = c.args.cells.now in
     let left = c.args.left.now in
     record {
-      raised = raised_nowhere cells.whos.items cells.slots.items c.args.y.now left.lacks.items left.rooms.items;
+      raised = raised_nowhere cells.whos.items cells.slots.items c.args.y.now left.lacks.items
+          left.rooms.items;
       within = c.requires.within;
       same = refl;
       nodes = c.requires.places;
@@ -18,17 +19,22 @@ loop-e-init c =
 pub raise-requires-clause-cell : goal.raise-requires-clause-cell
 raise-requires-clause-cell c =
     let left = c.args.left.now in
-    let same = (within_cells c.args.cells.now.whos.items c.args.cells.now.slots.items c.args.y.now left.lacks.items left.rooms.items c.requires.within).same in
-    let (lt, mine) = pass_here c.args.cells.now.slots_grouped c.list-e-items.ensures c.loop-e-test.true in
+    let same = (within_cells c.args.cells.now.whos.items c.args.cells.now.slots.items c.args.y.now
+    left.lacks.items left.rooms.items c.requires.within).same in
+    let (lt, mine) = pass_here c.args.cells.now.slots_grouped c.list-e-items.ensures
+    c.loop-e-test.true in
     omega (arith, lt, same)
 
 pub index-requires : goal.index-requires
 index-requires c =
     let left = c.loop-e.left in
-    let cells = within_cells c.args.cells.now.whos.items c.args.cells.now.slots.items c.loop-e.y left.lacks.items left.rooms.items c.loop-e.invariant.within in
+    let cells = within_cells c.args.cells.now.whos.items c.args.cells.now.slots.items c.loop-e.y
+    left.lacks.items left.rooms.items c.loop-e.invariant.within in
     let same = cells.same in
-    let (lt, mine) = pass_here c.args.cells.now.slots_grouped c.list-e-items.ensures c.loop-e-test.true in
-    let exist = cells.exist (label_at c.list-e-items.result.now c.loop-e.e-index) (omega (arith, lt, same)) in
+    let (lt, mine) = pass_here c.args.cells.now.slots_grouped c.list-e-items.ensures
+    c.loop-e-test.true in
+    let exist = cells.exist (label_at c.list-e-items.result.now c.loop-e.e-index)
+    (omega (arith, lt, same)) in
     let ok = left.rooms.ok.0 in
     omega (arith, exist, mine, ok)
 
@@ -44,8 +50,11 @@ loop-e-preserved c =
     let z = c.raise.new.y in
     let raised = c.raise.ensures.raised in
     record {
-      raised = raised_on whos slots c.args.y.now first.lacks.items first.rooms.items y left.lacks.items left.rooms.items z after.lacks.items after.rooms.items inv.raised raised;
-      within = still_within whos slots y left.lacks.items left.rooms.items inv.within z after.lacks.items after.rooms.items raised;
+      raised = raised_on whos slots c.args.y.now first.lacks.items first.rooms.items y
+          left.lacks.items left.rooms.items z after.lacks.items after.rooms.items inv.raised raised;
+      within = still_within whos slots y left.lacks.items left.rooms.items inv.within z
+          after.lacks.items after.rooms.items raised;
       same = c.raise.ensures.same ∙ inv.same;
-      nodes = inv.nodes ∙ sym (raised_lacks whos slots y left.lacks.items left.rooms.items inv.within z after.lacks.items after.rooms.items raised);
+      nodes = inv.nodes ∙ sym (raised_lacks whos slots y left.lacks.items left.rooms.items
+          inv.within z after.lacks.items after.rooms.items raised);
     }

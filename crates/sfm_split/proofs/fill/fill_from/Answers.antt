@@ -10,24 +10,33 @@ use Rattle.sfm_split.proofs.fill.fill_from.Goals.{In-Some, After-drain}
 use Rattle.sfm_split.proofs.fill.fill_from.Goals as goal
 
 -- what the search tells
-told : (c : In-Some) → IsSearch c.args.cells.now.whos.items c.args.cells.now.slots.items c.loop-search.y c.loop-search.left.lacks.items c.loop-search.left.rooms.items c.run.new.self.nodes.items (Some c.in-Some.last)
+told : (c : In-Some) → IsSearch c.args.cells.now.whos.items c.args.cells.now.slots.items
+    c.loop-search.y c.loop-search.left.lacks.items c.loop-search.left.rooms.items
+    c.run.new.self.nodes.items (Some c.in-Some.last)
 told c = rw c.in-Some.is at c.in_ok-last.ensures.search
 
 -- the amounts after both moves
-raised : (c : After-drain) → AreRaised c.args.cells.now.whos.items c.args.cells.now.slots.items c.loop-search.y c.loop-search.left.lacks.items c.loop-search.left.rooms.items c.drain.new.y c.drain.new.left.lacks.items c.drain.new.left.rooms.items
+raised : (c : After-drain) → AreRaised c.args.cells.now.whos.items c.args.cells.now.slots.items
+    c.loop-search.y c.loop-search.left.lacks.items c.loop-search.left.rooms.items c.drain.new.y
+    c.drain.new.left.lacks.items c.drain.new.left.rooms.items
 raised c =
     let left = c.loop-search.left in
     let one = c.raise.new in
     let all = c.drain.new in
-    raised_on c.args.cells.now.whos.items c.args.cells.now.slots.items c.loop-search.y left.lacks.items left.rooms.items one.y one.left.lacks.items one.left.rooms.items all.y all.left.lacks.items all.left.rooms.items c.raise.ensures.raised c.drain.ensures.raised
+    raised_on c.args.cells.now.whos.items c.args.cells.now.slots.items c.loop-search.y
+    left.lacks.items left.rooms.items one.y one.left.lacks.items one.left.rooms.items all.y
+    all.left.lacks.items all.left.rooms.items c.raise.ensures.raised c.drain.ensures.raised
 
 pub run-requires-clause-cells : goal.run-requires-clause-cells
 run-requires-clause-cells c =
     let left = c.loop-search.left in
-    within_cells c.args.cells.now.whos.items c.args.cells.now.slots.items c.loop-search.y left.lacks.items left.rooms.items c.loop-search.invariant.within
+    within_cells c.args.cells.now.whos.items c.args.cells.now.slots.items c.loop-search.y
+    left.lacks.items left.rooms.items c.loop-search.invariant.within
 
 pub raise-requires-clause-tree : goal.raise-requires-clause-tree
-raise-requires-clause-tree c = branches_of c.args.cells.now.whos.items c.args.cells.now.slots.items c.loop-search.y c.run.new.self.nodes.items (told (goal.at.raise-requires-clause-tree c).In-Some).tree
+raise-requires-clause-tree c = branches_of c.args.cells.now.whos.items c.args.cells.now.slots.items
+    c.loop-search.y c.run.new.self.nodes.items
+    (told (goal.at.raise-requires-clause-tree c).In-Some).tree
 
 pub drain-requires : goal.drain-requires
 drain-requires c =
@@ -39,8 +48,10 @@ drain-requires c =
     let within = c.loop-search.invariant.within in
     let s = told (goal.at.drain-requires c).In-Some in
     record {
-      within = still_within whos slots y left.lacks.items left.rooms.items within new.y new.left.lacks.items new.left.rooms.items c.raise.ensures.raised;
-      places = s.places ∙ sym (raised_lacks whos slots y left.lacks.items left.rooms.items within new.y new.left.lacks.items new.left.rooms.items c.raise.ensures.raised);
+      within = still_within whos slots y left.lacks.items left.rooms.items within new.y
+          new.left.lacks.items new.left.rooms.items c.raise.ensures.raised;
+      places = s.places ∙ sym (raised_lacks whos slots y left.lacks.items left.rooms.items within
+          new.y new.left.lacks.items new.left.rooms.items c.raise.ensures.raised);
       tree = branches_of whos slots y c.run.new.self.nodes.items s.tree;
     }
 
@@ -56,12 +67,17 @@ loop-search-smaller c =
     let s = told path.In-Some in
     let one = c.raise.new in
     let all = c.drain.new in
-    let first = still_within whos slots y lacks rooms within one.y one.left.lacks.items one.left.rooms.items c.raise.ensures.raised in
-    let then = still_within whos slots y lacks rooms within all.y all.left.lacks.items all.left.rooms.items (raised path.After-drain) in
-    let low = low_total all.left.lacks.items (within_lacks whos slots all.y all.left.lacks.items all.left.rooms.items then) in
+    let first = still_within whos slots y lacks rooms within one.y one.left.lacks.items
+    one.left.rooms.items c.raise.ensures.raised in
+    let then = still_within whos slots y lacks rooms within all.y all.left.lacks.items
+    all.left.rooms.items (raised path.After-drain) in
+    let low = low_total all.left.lacks.items
+    (within_lacks whos slots all.y all.left.lacks.items all.left.rooms.items then) in
     let less = c.raise.ensures.more (record { tree = s.tree; roots = s.roots; end = s.ended }) in
-    let falls = raised_falls whos slots one.y one.left.lacks.items one.left.rooms.items first all.y all.left.lacks.items all.left.rooms.items c.drain.ensures.raised in
-    to_nat_falls (total_of all.left.lacks.items) (total_of lacks) low (omega (arith, ints, less, falls))
+    let falls = raised_falls whos slots one.y one.left.lacks.items one.left.rooms.items first all.y
+    all.left.lacks.items all.left.rooms.items c.drain.ensures.raised in
+    to_nat_falls (total_of all.left.lacks.items) (total_of lacks) low
+    (omega (arith, ints, less, falls))
 
 pub loop-search-preserved : goal.loop-search-preserved
 loop-search-preserved c =
@@ -76,11 +92,19 @@ loop-search-preserved c =
     let all = c.drain.new in
     let both = raised path.After-drain in
     record {
-      raised = raised_on whos slots c.args.y.now first.lacks.items first.rooms.items y lacks rooms all.y all.left.lacks.items all.left.rooms.items inv.raised both;
-      within = still_within whos slots y lacks rooms inv.within all.y all.left.lacks.items all.left.rooms.items both;
-      listed = rw (c.drain.ensures.same ∙ c.raise.ensures.same) (still_listed whos slots y lacks rooms inv.within c.loop-search.left.lacking.items all.y all.left.lacks.items all.left.rooms.items both inv.listed);
-      nodes = (told path.In-Some).places ∙ sym (raised_lacks whos slots y lacks rooms inv.within all.y all.left.lacks.items all.left.rooms.items both);
-      marks = c.in_ok-last.ensures.places ∙ sym (raised_rooms whos slots y lacks rooms inv.within all.y all.left.lacks.items all.left.rooms.items both);
+      raised = raised_on whos slots c.args.y.now first.lacks.items first.rooms.items y lacks rooms
+          all.y all.left.lacks.items all.left.rooms.items inv.raised both;
+      within = still_within whos slots y lacks rooms inv.within all.y all.left.lacks.items
+          all.left.rooms.items both;
+      listed = rw (c.drain.ensures.same ∙ c.raise.ensures.same)
+          (still_listed whos slots y lacks rooms inv.within c.loop-search.left.lacking.items all.y
+          all.left.lacks.items all.left.rooms.items both inv.listed);
+      nodes = (told path.In-Some).places
+          ∙ sym (raised_lacks whos slots y lacks rooms inv.within all.y all.left.lacks.items
+          all.left.rooms.items both);
+      marks = c.in_ok-last.ensures.places
+          ∙ sym (raised_rooms whos slots y lacks rooms inv.within all.y all.left.lacks.items
+          all.left.rooms.items both);
       queued = c.in_ok-last.ensures.queued;
     }
 

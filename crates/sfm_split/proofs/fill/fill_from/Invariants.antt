@@ -9,8 +9,10 @@ use Rattle.sfm_split.proofs.fill.fill_from.Given as goal
 
 abbrev pub invariant-loop-search : goal.invariant-loop-search
 invariant-loop-search l = record {
-  raised : AreRaised l.cells.whos.items l.cells.slots.items l.initial.y l.initial.left.lacks.items l.initial.left.rooms.items l.y l.left.lacks.items l.left.rooms.items;
-  within : AreWithin l.cells.whos.items l.cells.slots.items l.y l.left.lacks.items l.left.rooms.items;
+  raised : AreRaised l.cells.whos.items l.cells.slots.items l.initial.y l.initial.left.lacks.items
+      l.initial.left.rooms.items l.y l.left.lacks.items l.left.rooms.items;
+  within : AreWithin l.cells.whos.items l.cells.slots.items l.y l.left.lacks.items
+      l.left.rooms.items;
   listed : ListsLacking l.left.lacks.items l.left.lacking.items;
   nodes : length l.search.nodes.items ≡ length l.left.lacks.items;
   marks : length l.search.marks.items ≡ length l.left.rooms.items;

@@ -14,18 +14,23 @@ slot : (c : After-index-s) → c.index-s.result.now ≡ label_at c.args.cells.no
 slot c =
     let left = c.args.left.now in
     let slots = c.args.cells.now.slots.items in
-    let same = (within_cells c.args.cells.now.whos.items slots c.args.y.now left.lacks.items left.rooms.items c.requires.within).same in
+    let same = (within_cells c.args.cells.now.whos.items slots c.args.y.now left.lacks.items
+    left.rooms.items c.requires.within).same in
     let lt = c.requires.cell in
     get_or_read slots c.args.e c.index-s.result.now (omega (arith, same, lt)) c.index-s.ensures 0
 
 -- what it has left
-room : (c : After-index) → c.index-s.result.now ≡ label_at c.args.cells.now.slots.items c.args.e → c.index.result.now ≡ amount_at c.args.left.now.rooms.items (label_at c.args.cells.now.slots.items c.args.e)
+room : (c : After-index) → c.index-s.result.now ≡ label_at c.args.cells.now.slots.items c.args.e
+    → c.index.result.now ≡ amount_at c.args.left.now.rooms.items
+    (label_at c.args.cells.now.slots.items c.args.e)
 room c is =
     let left = c.args.left.now in
     let slots = c.args.cells.now.slots.items in
     let s = c.index-s.result.now in
-    let exist = (within_cells c.args.cells.now.whos.items slots c.args.y.now left.lacks.items left.rooms.items c.requires.within).exist c.args.e c.requires.cell in
-    get_or_read left.rooms.items s c.index.result.now (omega (arith, is, exist)) c.index.ensures (pos 0) ∙ ap (λ k. amount_at left.rooms.items k) is
+    let exist = (within_cells c.args.cells.now.whos.items slots c.args.y.now left.lacks.items
+    left.rooms.items c.requires.within).exist c.args.e c.requires.cell in
+    get_or_read left.rooms.items s c.index.result.now (omega (arith, is, exist)) c.index.ensures
+    (pos 0) ∙ ap (λ k. amount_at left.rooms.items k) is
 
 pub flow_along-a-requires-clause-tree : goal.flow_along-a-requires-clause-tree
 flow_along-a-requires-clause-tree c = rw c.deref-2.ensures.value c.requires.tree
@@ -36,7 +41,8 @@ returns-then-a-le0-clause-more c =
     let held = room path.After-index (slot path.After-index-s) in
     let fr : FitsSigned w128 c.index.result.now = search rules in
     let fa : FitsSigned w128 c.flow_along-a.result = search rules in
-    let some = rw (c.deref-2.ensures.value, c.deref-3.ensures.value) at c.flow_along-a.ensures.some in
+    let some = rw (c.deref-2.ensures.value, c.deref-3.ensures.value) at
+    c.flow_along-a.ensures.some in
     let none = c.if-a-le0.true in
     λ open_.
     let has = open_.end.room in
@@ -59,7 +65,8 @@ augment-requires-clause-some c =
 pub augment-requires-clause-small : goal.augment-requires-clause-small
 augment-requires-clause-small c =
     let left = c.args.left.now in
-    within_load c.args.cells.now.whos.items c.args.cells.now.slots.items c.args.y.now left.lacks.items left.rooms.items c.requires.within
+    within_load c.args.cells.now.whos.items c.args.cells.now.slots.items c.args.y.now
+    left.lacks.items left.rooms.items c.requires.within
 
 pub augment-requires-clause-room : goal.augment-requires-clause-room
 augment-requires-clause-room c =
@@ -72,8 +79,10 @@ augment-requires-clause-room c =
     let fr : FitsSigned w128 c.index.result.now = search rules in
     let fa : FitsSigned w128 a = search rules in
     let most = c.flow_along-a.ensures.most in
-    let exist = (within_cells whos slots c.args.y.now left.lacks.items left.rooms.items c.requires.within).exist c.args.e c.requires.cell in
-    let high = within_small whos slots c.args.y.now left.lacks.items left.rooms.items c.requires.within (label_at slots c.args.e) exist in
+    let exist = (within_cells whos slots c.args.y.now left.lacks.items left.rooms.items
+    c.requires.within).exist c.args.e c.requires.cell in
+    let high = within_small whos slots c.args.y.now left.lacks.items left.rooms.items
+    c.requires.within (label_at slots c.args.e) exist in
     rw (to_z-of_z w128 a fa) (omega (arith, ints, most, held, high))
 
 pub take-requires-clause-low : goal.take-requires-clause-low
@@ -87,7 +96,8 @@ pub take-requires-clause-place : goal.take-requires-clause-place
 take-requires-clause-place c =
     let left = c.args.left.now in
     let is = slot (goal.at.take-requires-clause-place c).After-index-s in
-    let exist = (within_cells c.args.cells.now.whos.items c.args.cells.now.slots.items c.args.y.now left.lacks.items left.rooms.items c.requires.within).exist c.args.e c.requires.cell in
+    let exist = (within_cells c.args.cells.now.whos.items c.args.cells.now.slots.items c.args.y.now
+    left.lacks.items left.rooms.items c.requires.within).exist c.args.e c.requires.cell in
     rw (c.deref_mut-2.ensures.value, is) exist
 
 pub take-requires-clause-enough : goal.take-requires-clause-enough
@@ -115,11 +125,17 @@ returns c =
     let most = c.flow_along-a.ensures.most in
     let on = c.if-a-le0.false in
     let some : pos 1 ≤ℤ a = omega (arith, ints, on) in
-    let fits : a ≤ℤ amount_at rooms (label_at c.args.cells.now.slots.items c.args.e) = omega (arith, ints, most, held) in
+    let fits : a ≤ℤ amount_at rooms
+    (label_at c.args.cells.now.slots.items c.args.e) = omega (arith, ints, most, held) in
     let za = to_z-of_z w128 a fa in
-    let (r, tl) = rw (c.deref-4.ensures.value, c.deref_mut.ensures.value, za) at c.augment.ensures in
+    let (r, tl) = rw (c.deref-4.ensures.value, c.deref_mut.ensures.value, za) at
+    c.augment.ensures in
     let tr = rw (c.deref_mut-2.ensures.value, is, za) at c.take.ensures in
-    let ql = written c.augment.new.lacks (drop (length c.augment.new.lacks) lacks) left.lacks.len (c.augment.auto.lacks ∙ (ap length c.deref_mut.ensures.value ∙ sym left.lacks.ok.0)) in
-    let qr = written c.take.new.from (drop (length c.take.new.from) rooms) left.rooms.len (c.take.auto.from ∙ (ap length c.deref_mut-2.ensures.value ∙ sym left.rooms.ok.0)) in
-    let (raised, less) = moved c.args.cells.now.whos.items c.args.cells.now.slots.items c.args.y.now lacks rooms c.args.search.now.nodes.items c.args.e a c.augment.new.y c.augment.new.lacks c.take.new.from c.requires.places c.requires.cell some fits r tl tr in
+    let ql = written c.augment.new.lacks (drop (length c.augment.new.lacks) lacks) left.lacks.len
+    (c.augment.auto.lacks ∙ (ap length c.deref_mut.ensures.value ∙ sym left.lacks.ok.0)) in
+    let qr = written c.take.new.from (drop (length c.take.new.from) rooms) left.rooms.len
+    (c.take.auto.from ∙ (ap length c.deref_mut-2.ensures.value ∙ sym left.rooms.ok.0)) in
+    let (raised, less) = moved c.args.cells.now.whos.items c.args.cells.now.slots.items c.args.y.now
+    lacks rooms c.args.search.now.nodes.items c.args.e a c.augment.new.y c.augment.new.lacks
+    c.take.new.from c.requires.places c.requires.cell some fits r tl tr in
     rw (ql, qr) (record { raised = raised; same = refl; more = λ open_. less })

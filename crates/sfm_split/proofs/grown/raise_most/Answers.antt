@@ -10,8 +10,11 @@ use Rattle.sfm_split.proofs.grown.raise_most.Goals.{In_ok-search, After-index}
 use Rattle.sfm_split.proofs.grown.raise_most.Goals as goal
 
 -- u is raised as far as it goes
-raised : (c : In_ok-search) (d : Demands) → MayGrow d c.args.cells.now.whos.items c.args.cells.now.slots.items c.args.work.now.y.items c.args.work.now.left.lacks.items c.args.work.now.left.rooms.items c.args.u c.args.limit
-    → IsRaisedMost d c.args.cells.now.whos.items c.args.cells.now.slots.items c.args.u c.args.limit c.fill_from.new.y c.fill_from.new.left.lacks.items c.fill_from.new.left.rooms.items
+raised : (c : In_ok-search) (d : Demands)
+    → MayGrow d c.args.cells.now.whos.items c.args.cells.now.slots.items c.args.work.now.y.items
+    c.args.work.now.left.lacks.items c.args.work.now.left.rooms.items c.args.u c.args.limit
+    → IsRaisedMost d c.args.cells.now.whos.items c.args.cells.now.slots.items c.args.u c.args.limit
+    c.fill_from.new.y c.fill_from.new.left.lacks.items c.fill_from.new.left.rooms.items
 raised c d h =
     let cells = c.args.cells.now in
     let work = c.args.work.now in
@@ -19,12 +22,18 @@ raised c d h =
     let fq : FitsSigned w128 limit = c.ranges.limit in
     let told = simp to_z-of_z at (rw c.deref_mut.ensures.value at c.in_ok-search.ensures) in
     let after = c.fill_from.new.left in
-    may_grow d cells.whos.items cells.slots.items work.y.items work.left.lacks.items work.left.rooms.items c.args.u limit h c.fill_from.new.y after.lacks.items after.rooms.items c.in_ok-search.search.nodes.items told.raised told.stuck
+    may_grow d cells.whos.items cells.slots.items work.y.items work.left.lacks.items
+    work.left.rooms.items c.args.u limit h c.fill_from.new.y after.lacks.items after.rooms.items
+    c.in_ok-search.search.nodes.items told.raised told.stuck
 
 -- what u still lacks is read, and is no more than the limit
-left_of : (c : After-index) (d : Demands) → MayGrow d c.args.cells.now.whos.items c.args.cells.now.slots.items c.args.work.now.y.items c.args.work.now.left.lacks.items c.args.work.now.left.rooms.items c.args.u c.args.limit
-    → IsRaisedMost d c.args.cells.now.whos.items c.args.cells.now.slots.items c.args.u c.args.limit c.fill_from.new.y c.fill_from.new.left.lacks.items c.fill_from.new.left.rooms.items
-    → (c.index.result.now ≡ amount_at c.fill_from.new.left.lacks.items c.args.u) × FitsSigned w128 (c.args.limit -ℤ c.index.result.now)
+left_of : (c : After-index) (d : Demands)
+    → MayGrow d c.args.cells.now.whos.items c.args.cells.now.slots.items c.args.work.now.y.items
+    c.args.work.now.left.lacks.items c.args.work.now.left.rooms.items c.args.u c.args.limit
+    → IsRaisedMost d c.args.cells.now.whos.items c.args.cells.now.slots.items c.args.u c.args.limit
+    c.fill_from.new.y c.fill_from.new.left.lacks.items c.fill_from.new.left.rooms.items
+    → (c.index.result.now ≡ amount_at c.fill_from.new.left.lacks.items c.args.u)
+    × FitsSigned w128 (c.args.limit -ℤ c.index.result.now)
 left_of c d h told =
     let limit : ℤ = c.args.limit in
     let fq : FitsSigned w128 limit = c.ranges.limit in
@@ -33,7 +42,8 @@ left_of c d h told =
     let high_left = told.high in
     let lt = h.place in
     let low = h.low in
-    let m = get_or_read c.fill_from.new.left.lacks.items c.args.u c.index.result.now (omega (arith, lt, places)) c.index.ensures (pos 0) in
+    let m = get_or_read c.fill_from.new.left.lacks.items c.args.u c.index.result.now
+    (omega (arith, lt, places)) c.index.ensures (pos 0) in
     (m, omega (arith, ints, m, low_left, high_left, low, fq))
 
 pub index_mut-requires : goal.index_mut-requires
@@ -51,7 +61,15 @@ fill_from-requires c =
     let work = c.args.work.now in
     let limit : ℤ = c.args.limit in
     let fq : FitsSigned w128 limit = c.ranges.limit in
-    record { within = simp to_z-of_z (rw c.deref_mut.ensures.value (may_within d cells.whos.items cells.slots.items work.y.items work.left.lacks.items work.left.rooms.items c.args.u limit h)); listed = simp to_z-of_z (rw (c.in_ok-push.ensures.items, c.clear.ensures.items) (may_listed d cells.whos.items cells.slots.items work.y.items work.left.lacks.items work.left.rooms.items c.args.u limit h)) }
+    record {
+      within = simp to_z-of_z
+          (rw c.deref_mut.ensures.value
+          (may_within d cells.whos.items cells.slots.items work.y.items work.left.lacks.items
+          work.left.rooms.items c.args.u limit h));
+      listed = simp to_z-of_z (rw (c.in_ok-push.ensures.items, c.clear.ensures.items)
+          (may_listed d cells.whos.items cells.slots.items work.y.items work.left.lacks.items
+          work.left.rooms.items c.args.u limit h));
+    }
 
 pub index-requires : goal.index-requires
 index-requires c =
@@ -76,5 +94,6 @@ returns c d h =
     let fl : FitsSigned w128 c.index.result.now = search rules in
     let told = raised (goal.at.returns c).In_ok-search d h in
     let (m, fd) = left_of (goal.at.returns c).After-index d h told in
-    let q = written c.fill_from.new.y (drop (length c.fill_from.new.y) work.y.items) work.y.len (c.fill_from.auto.y ∙ (ap length c.deref_mut.ensures.value ∙ sym work.y.ok.0)) in
+    let q = written c.fill_from.new.y (drop (length c.fill_from.new.y) work.y.items) work.y.len
+    (c.fill_from.auto.y ∙ (ap length c.deref_mut.ensures.value ∙ sym work.y.ok.0)) in
     simp to_z-of_z (rw (q, m) told.grown)

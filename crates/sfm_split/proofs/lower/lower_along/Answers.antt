@@ -9,12 +9,15 @@ use Rattle.sfm_split.proofs.lower.lower_along.Goals.{At-loop-e}
 use Rattle.sfm_split.proofs.lower.lower_along.Goals as goal
 
 -- the total is one of the side, which has as many as at first
-in_range : (c : At-loop-e) → c.args.k < length (of_side c.args.side c.loop-e.left.lacks.items c.loop-e.left.rooms.items)
+in_range : (c : At-loop-e) → c.args.k < length
+    (of_side c.args.side c.loop-e.left.lacks.items c.loop-e.left.rooms.items)
 in_range c =
     let first = c.args.left.now in
     let left = c.loop-e.left in
     let place = c.requires.place in
-    let same = side_places c.args.cells.now.whos.items c.args.cells.now.slots.items c.args.y.now first.lacks.items first.rooms.items c.requires.charged c.loop-e.y left.lacks.items left.rooms.items c.loop-e.invariant.lowered c.args.side in
+    let same = side_places c.args.cells.now.whos.items c.args.cells.now.slots.items c.args.y.now
+    first.lacks.items first.rooms.items c.requires.charged c.loop-e.y left.lacks.items
+    left.rooms.items c.loop-e.invariant.lowered c.args.side in
     omega (arith, place, same)
 
 pub loop-e-init : goal.loop-e-init
@@ -24,9 +27,11 @@ loop-e-init c =
     let left = c.args.left.now in
     let side = c.args.side in
     record {
-      lowered = lowered_nowhere cells.whos.items cells.slots.items y left.lacks.items left.rooms.items;
+      lowered = lowered_nowhere cells.whos.items cells.slots.items y left.lacks.items
+          left.rooms.items;
       charged = c.requires.charged;
-      passed = pass_begun c.list-e-items.result.now (IsSpent (of_side side left.lacks.items left.rooms.items) c.args.k y);
+      passed = pass_begun c.list-e-items.result.now
+          (IsSpent (of_side side left.lacks.items left.rooms.items) c.args.k y);
       listed = c.requires.listed;
     }
 
@@ -34,13 +39,19 @@ pub excess-over-requires : goal.excess-over-requires
 excess-over-requires c =
     let left = c.loop-e.left in
     let place = in_range (goal.at.excess-over-requires c).At-loop-e in
-    record { place = place; small = side_small c.args.cells.now.whos.items c.args.cells.now.slots.items c.loop-e.y left.lacks.items left.rooms.items c.loop-e.invariant.charged c.args.side c.args.k }
+    record {
+      place = place;
+      small = side_small c.args.cells.now.whos.items
+          c.args.cells.now.slots.items c.loop-e.y left.lacks.items left.rooms.items
+          c.loop-e.invariant.charged c.args.side c.args.k;
+    }
 
 pub lower_on-requires-clause-cell : goal.lower_on-requires-clause-cell
 lower_on-requires-clause-cell c =
     let cells = c.args.cells.now in
     let left = c.args.left.now in
-    let same = side_cells cells.whos.items cells.slots.items c.args.y.now left.lacks.items left.rooms.items c.requires.charged c.args.side in
+    let same = side_cells cells.whos.items cells.slots.items c.args.y.now left.lacks.items
+    left.rooms.items c.requires.charged c.args.side in
     let (lt, mine) = pass_here c.groups.ensures c.list-e-items.ensures c.loop-e-test.true in
     omega (arith, lt, same)
 
@@ -65,11 +76,18 @@ loop-e-preserved c =
     let is = c.excess-over.ensures in
     let Spent : ℕ → Type 0 = IsSpent (of_side side after.lacks.items after.rooms.items) k new.y in
     record {
-      lowered = lowered_on whos slots c.args.y.now first.lacks.items first.rooms.items y left.lacks.items left.rooms.items new.y after.lacks.items after.rooms.items inv.lowered told.lowered;
-      charged = still_charged whos slots y left.lacks.items left.rooms.items inv.charged new.y after.lacks.items after.rooms.items told.lowered;
+      lowered = lowered_on whos slots c.args.y.now first.lacks.items first.rooms.items y
+          left.lacks.items left.rooms.items new.y after.lacks.items after.rooms.items inv.lowered
+          told.lowered;
+      charged = still_charged whos slots y left.lacks.items left.rooms.items inv.charged new.y
+          after.lacks.items after.rooms.items told.lowered;
       passed = pass_more Spent inv.passed
-          (λ f h. still_spent whos slots y left.lacks.items left.rooms.items new.y after.lacks.items after.rooms.items told.lowered side k f h)
-          (λ less. by_lt_z (pos 0) (get_or new.y e (pos 0)) (λ some. let t = rw mine at (given (omega (arith, ints, some)) side) in absurd (omega (arith, ints, t, is, less))) (λ none. none));
+          (λ f h. still_spent whos slots y left.lacks.items left.rooms.items new.y after.lacks.items
+          after.rooms.items told.lowered side k f h)
+          (λ less. by_lt_z (pos 0) (get_or new.y e (pos 0))
+          (λ some. let t = rw mine at
+          (given (omega (arith, ints, some)) side) in absurd (omega (arith, ints, t, is, less)))
+          (λ none. none));
       listed = told.listed;
     }
 
@@ -77,4 +95,7 @@ pub returns-clause-mended : goal.returns-clause-mended
 returns-clause-mended c =
     let left = c.loop-e.left in
     let inv = c.loop-e.invariant in
-    side_mended c.args.cells.now.whos.items c.args.cells.now.slots.items c.loop-e.y left.lacks.items left.rooms.items inv.charged c.args.side c.args.k (in_range (goal.at.returns-clause-mended c).At-loop-e) (pass_done c.groups.ensures c.list-e-items.ensures c.loop-e-test.false inv.passed)
+    side_mended c.args.cells.now.whos.items c.args.cells.now.slots.items c.loop-e.y left.lacks.items
+    left.rooms.items inv.charged c.args.side c.args.k
+    (in_range (goal.at.returns-clause-mended c).At-loop-e)
+    (pass_done c.groups.ensures c.list-e-items.ensures c.loop-e-test.false inv.passed)

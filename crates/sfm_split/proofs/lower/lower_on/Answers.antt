@@ -8,8 +8,8 @@ use Rattle.sfm_split.proofs.Lowering.{lowered_cell, side_give, given_back}
 use Rattle.sfm_split.proofs.lower.lower_on.Goals.{After-min-a}
 use Rattle.sfm_split.proofs.lower.lower_on.Goals as goal
 
--- the demand and the slot of the cell, and what is taken from it: no less than nothing, no more than it has, and all that is too much
--- where something stays
+-- the demand and the slot of the cell, and what is taken from it: no less than nothing, no more
+-- than it has, and all that is too much where something stays
 record IsTaken (whos slots : List ℕ) (e i s : ℕ) (has over a : ℤ) : Type 0 where
   who : i ≡ label_at whos e
   slot : s ≡ label_at slots e
@@ -17,7 +17,9 @@ record IsTaken (whos slots : List ℕ) (e i s : ℕ) (has over a : ℤ) : Type 0
   most : a ≤ℤ has
   all : pos 1 ≤ℤ (has -ℤ a) → a ≡ over
 
-taken : (c : After-min-a) → IsTaken c.args.cells.now.whos.items c.args.cells.now.slots.items c.args.e c.index-i.result.now c.index-s.result.now (get_or c.args.y.now c.args.e (pos 0)) c.args.over c.min-a.result
+taken : (c : After-min-a) → IsTaken c.args.cells.now.whos.items c.args.cells.now.slots.items
+    c.args.e c.index-i.result.now c.index-s.result.now (get_or c.args.y.now c.args.e (pos 0))
+    c.args.over c.min-a.result
 taken c =
     let w = c.requires.charged in
     let e = c.args.e in
@@ -32,7 +34,8 @@ taken c =
     let some = w.charge.amounts e in
     record {
       who = get_or_read c.args.cells.now.whos.items e c.index-i.result.now lt c.index-i.ensures 0;
-      slot = get_or_read c.args.cells.now.slots.items e c.index-s.result.now (omega (arith, lt, same)) c.index-s.ensures 0;
+      slot = get_or_read c.args.cells.now.slots.items e c.index-s.result.now
+          (omega (arith, lt, same)) c.index-s.ensures 0;
       low = omega (arith, ints, clamps, value, positive, some);
       most = omega (arith, ints, clamps, value);
       all = λ one. omega (arith, ints, clamps, value, one);
@@ -58,7 +61,10 @@ put-requires-clause-can c =
     let left = c.args.left.now in
     let a : ℤ = c.min-a.result in
     let fa : FitsSigned w128 a = search rules in
-    rw (h.who, to_z-of_z w128 a fa) (side_give c.args.cells.now.whos.items c.args.cells.now.slots.items c.args.y.now left.lacks.items left.rooms.items c.requires.charged c.args.e a c.requires.cell h.low h.most Demands)
+    rw (h.who, to_z-of_z w128 a fa)
+    (side_give c.args.cells.now.whos.items c.args.cells.now.slots.items c.args.y.now
+    left.lacks.items left.rooms.items c.requires.charged c.args.e a c.requires.cell h.low h.most
+    Demands)
 
 pub put-requires-2-clause-can : goal.put-requires-2-clause-can
 put-requires-2-clause-can c =
@@ -66,7 +72,10 @@ put-requires-2-clause-can c =
     let left = c.args.left.now in
     let a : ℤ = c.min-a.result in
     let fa : FitsSigned w128 a = search rules in
-    rw (c.in_ok-put.ensures.rooms, h.slot, to_z-of_z w128 a fa) (side_give c.args.cells.now.whos.items c.args.cells.now.slots.items c.args.y.now left.lacks.items left.rooms.items c.requires.charged c.args.e a c.requires.cell h.low h.most Slots)
+    rw (c.in_ok-put.ensures.rooms, h.slot, to_z-of_z w128 a fa)
+    (side_give c.args.cells.now.whos.items c.args.cells.now.slots.items c.args.y.now
+    left.lacks.items left.rooms.items c.requires.charged c.args.e a c.requires.cell h.low h.most
+    Slots)
 
 pub returns-clause-lowered : goal.returns-clause-lowered
 returns-clause-lowered c =
@@ -78,7 +87,9 @@ returns-clause-lowered c =
     let ty = rw za at c.take.ensures in
     let tl = rw (h.who, za) at c.in_ok-put.ensures.lacks in
     let tr = rw (c.in_ok-put.ensures.rooms, h.slot, za) at c.in_ok-put-2.ensures.rooms in
-    rw (ty, c.in_ok-put-2.ensures.lacks, tl, tr) (lowered_cell c.args.cells.now.whos.items c.args.cells.now.slots.items c.args.y.now left.lacks.items left.rooms.items c.args.e a c.requires.cell h.low h.most)
+    rw (ty, c.in_ok-put-2.ensures.lacks, tl, tr)
+    (lowered_cell c.args.cells.now.whos.items c.args.cells.now.slots.items c.args.y.now
+    left.lacks.items left.rooms.items c.args.e a c.requires.cell h.low h.most)
 
 pub returns-clause-given : goal.returns-clause-given
 returns-clause-given c =
@@ -90,4 +101,7 @@ returns-clause-given c =
     let ty = rw za at c.take.ensures in
     let tl = rw (h.who, za) at c.in_ok-put.ensures.lacks in
     let tr = rw (c.in_ok-put.ensures.rooms, h.slot, za) at c.in_ok-put-2.ensures.rooms in
-    rw (ty, c.in_ok-put-2.ensures.lacks, tl, tr) (given_back c.args.cells.now.whos.items c.args.cells.now.slots.items c.args.y.now left.lacks.items left.rooms.items c.requires.charged c.args.e a c.args.over c.requires.cell h.all)
+    rw (ty, c.in_ok-put-2.ensures.lacks, tl, tr)
+    (given_back c.args.cells.now.whos.items c.args.cells.now.slots.items c.args.y.now
+    left.lacks.items left.rooms.items c.requires.charged c.args.e a c.args.over c.requires.cell
+    h.all)

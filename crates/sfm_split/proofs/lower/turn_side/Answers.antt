@@ -12,7 +12,13 @@ loop-k-init c = record { stands = λ others h. h; listed = c.requires.listed }
 pub turn_total-requires : goal.turn_total-requires
 turn_total-requires c =
     let (others, h) = c.requires.stands in
-    record { place = omega arith; same = c.requires.same; bounded = c.requires.bounded; stands = (others, c.loop-k.invariant.stands others h); listed = c.loop-k.invariant.listed }
+    record {
+      place = omega arith;
+      same = c.requires.same;
+      bounded = c.requires.bounded;
+      stands = (others, c.loop-k.invariant.stands others h);
+      listed = c.loop-k.invariant.listed;
+    }
 
 pub loop-k-preserved : goal.loop-k-preserved
 loop-k-preserved c =
@@ -24,14 +30,23 @@ loop-k-preserved c =
     let ft : FitsSigned w128 (get_or turn.totals.now k (pos 0)) = search rules in
     let fb : FitsSigned w128 (get_or turn.before.now k (pos 0)) = search rules in
     elim c.if-totals-k.branch [
-      | then-totals-k+in_ok-turn_total w ↦ rw (w.left-is, w.y-is) (record { stands = λ others h. w.in_ok-turn_total.ensures.stands others (inv.stands others h); listed = w.in_ok-turn_total.ensures.listed })
+      | then-totals-k+in_ok-turn_total w ↦ rw (w.left-is, w.y-is)
+          (record {
+            stands = λ others h. w.in_ok-turn_total.ensures.stands others
+                (inv.stands others h);
+            listed = w.in_ok-turn_total.ensures.listed;
+          })
       | else-totals-k w ↦ (
           let same = simp to_z-of_z at (ap (to_z w128) w.if-totals-k.false) in
           rw (w.left-is, w.y-is) (record {
-            stands = λ others h. turned_same turn.side turn.totals.now turn.before.now others cells.whos.items cells.slots.items c.loop-k.y left.lacks.items left.rooms.items k c.requires.same (inv.stands others h) same;
+            stands = λ others h. turned_same turn.side turn.totals.now turn.before.now others
+                cells.whos.items cells.slots.items c.loop-k.y left.lacks.items left.rooms.items k
+                c.requires.same (inv.stands others h) same;
             listed = inv.listed;
           }))
     ]
 
 pub returns-clause-stands : goal.returns-clause-stands
-returns-clause-stands c = λ others h. rw ((are_turned c.loop-k.k c.args.turn.now.totals.now c.args.turn.now.before.now c.requires.same).all (omega arith)) at c.loop-k.invariant.stands others h
+returns-clause-stands c = λ others h.
+    rw ((are_turned c.loop-k.k c.args.turn.now.totals.now c.args.turn.now.before.now
+    c.requires.same).all (omega arith)) at c.loop-k.invariant.stands others h

@@ -10,13 +10,20 @@ use Rattle.sfm_split.proofs.lower.turn_total.Goals.{Start, After-put}
 use Rattle.sfm_split.proofs.lower.turn_total.Goals as goal
 
 -- amounts that stand with the totals before can turn to the next one
-turns : (c : Start) (others : List ℤ) → let turn = c.args.turn.now in let cells = c.args.cells.now in let left = c.args.left.now in StandsBy turn.side (turned c.args.k turn.totals.now turn.before.now) others cells.whos.items cells.slots.items c.args.y.now left.lacks.items left.rooms.items
-    → IsTurning turn.side turn.totals.now turn.before.now others cells.whos.items cells.slots.items c.args.y.now left.lacks.items left.rooms.items c.args.k (amount_at turn.totals.now c.args.k -ℤ amount_at turn.before.now c.args.k)
+turns : (c : Start) (others : List ℤ)
+    → let turn = c.args.turn.now in let cells = c.args.cells.now in let left =
+    c.args.left.now in StandsBy turn.side (turned c.args.k turn.totals.now turn.before.now) others
+    cells.whos.items cells.slots.items c.args.y.now left.lacks.items left.rooms.items
+    → IsTurning turn.side turn.totals.now turn.before.now others cells.whos.items cells.slots.items
+    c.args.y.now left.lacks.items left.rooms.items c.args.k
+    (amount_at turn.totals.now c.args.k -ℤ amount_at turn.before.now c.args.k)
 turns c others h =
     let turn = c.args.turn.now in
     let cells = c.args.cells.now in
     let left = c.args.left.now in
-    turning turn.side turn.totals.now turn.before.now others cells.whos.items cells.slots.items c.args.y.now left.lacks.items left.rooms.items c.args.k c.requires.same h c.requires.place c.requires.bounded
+    turning turn.side turn.totals.now turn.before.now others cells.whos.items cells.slots.items
+    c.args.y.now left.lacks.items left.rooms.items c.args.k c.requires.same h c.requires.place
+    c.requires.bounded
 
 pub overflow_sub-after : goal.overflow_sub-after
 overflow_sub-after c =
@@ -37,8 +44,10 @@ put-requires-clause-can c =
     simp to_z-of_z can.put
 
 -- what is left once the total has changed
-left_are : (c : After-put) → let turn = c.args.turn.now in let left = c.args.left.now in let more = amount_at turn.totals.now c.args.k -ℤ amount_at turn.before.now c.args.k in FitsSigned w128 more
-    → (c.put.new.left.lacks.items ≡ lacks_put turn.side left.lacks.items c.args.k more) × (c.put.new.left.rooms.items ≡ rooms_put turn.side left.rooms.items c.args.k more)
+left_are : (c : After-put) → let turn = c.args.turn.now in let left = c.args.left.now in let more =
+    amount_at turn.totals.now c.args.k -ℤ amount_at turn.before.now c.args.k in FitsSigned w128 more
+    → (c.put.new.left.lacks.items ≡ lacks_put turn.side left.lacks.items c.args.k more)
+    × (c.put.new.left.rooms.items ≡ rooms_put turn.side left.rooms.items c.args.k more)
 left_are c fits =
     let ft : FitsSigned w128 (get_or c.args.turn.now.totals.now c.args.k (pos 0)) = search rules in
     let fb : FitsSigned w128 (get_or c.args.turn.now.before.now c.args.k (pos 0)) = search rules in
@@ -54,7 +63,15 @@ lower_along-requires c =
     let (others, h) = c.requires.stands in
     let r = turns path.Start others h in
     let (lacks_are, rooms_are) = left_are path.After-put r.can.fits in
-    rw (lacks_are, rooms_are) (record { place = rw (side_put turn.side left.lacks.items left.rooms.items c.args.k more, length-set own c.args.k (amount_at own c.args.k +ℤ more)) r.can.put.place; charged = r.charged; listed = rw lacks_are at c.in_ok-put.ensures.listed })
+    rw (lacks_are, rooms_are)
+    (record {
+      place = rw (
+        side_put turn.side left.lacks.items left.rooms.items c.args.k more,
+        length-set own c.args.k (amount_at own c.args.k +ℤ more),
+      ) r.can.put.place;
+      charged = r.charged;
+      listed = rw lacks_are at c.in_ok-put.ensures.listed;
+    })
 
 pub returns-clause-stands : goal.returns-clause-stands
 returns-clause-stands c = λ others h.
@@ -62,4 +79,6 @@ returns-clause-stands c = λ others h.
     let new = c.lower_along.new in
     let r = turns path.Start others h in
     let (lacks_are, rooms_are) = left_are path.After-put r.can.fits in
-    r.stands new.y new.left.lacks.items new.left.rooms.items (rw (lacks_are, rooms_are) at c.in_ok-lower_along.ensures.lowered) c.in_ok-lower_along.ensures.mended
+    r.stands new.y new.left.lacks.items new.left.rooms.items
+    (rw (lacks_are, rooms_are) at c.in_ok-lower_along.ensures.lowered)
+    c.in_ok-lower_along.ensures.mended

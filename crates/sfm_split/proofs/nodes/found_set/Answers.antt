@@ -13,11 +13,19 @@ loop-i-preserved c =
     let i = c.loop-i.i in
     let lt : i < length nodes = omega arith in
     elim c.if-is_found.branch [
-      | then-is_found w ↦ rw (w.set-is, w.insert.ensures) (found_put nodes c.loop-i.set i lt (MatchBool-at_true _ _ w.if-is_found.true c.is_found.ensures) c.loop-i.invariant)
-      | else-is_found w ↦ rw w.set-is (found_skip nodes c.loop-i.set i (MatchBool-at_false _ _ w.if-is_found.false c.is_found.ensures) c.loop-i.invariant)
+      | then-is_found w ↦ rw (w.set-is, w.insert.ensures)
+          (found_put nodes c.loop-i.set i lt
+          (MatchBool-at_true _ _ w.if-is_found.true c.is_found.ensures) c.loop-i.invariant)
+      | else-is_found w ↦ rw w.set-is
+          (found_skip nodes c.loop-i.set i
+          (MatchBool-at_false _ _ w.if-is_found.false c.is_found.ensures) c.loop-i.invariant)
     ]
 
 pub returns : goal.returns
 returns c =
     let inv = c.loop-i.invariant in
-    record { places = inv.places; members = inv.members; others = λ j lt. inv.others j (omega (arith, lt)) }
+    record {
+      places = inv.places;
+      members = inv.members;
+      others = λ j lt. inv.others j (omega (arith, lt));
+    }

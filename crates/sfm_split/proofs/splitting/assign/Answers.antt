@@ -7,7 +7,8 @@ pub cut-requires : goal.cut-requires
 cut-requires c =
     let d = c.args.demand.now in
     let k = c.in_ok-shares.ensures.shares in
-    rw (c.deref.ensures.value, c.lists.ensures.value) (k.part.cells ∙ (ap length k.in_order ∙ length-owners 0 d.lists))
+    rw (c.deref.ensures.value, c.lists.ensures.value)
+    (k.part.cells ∙ (ap length k.in_order ∙ length-owners 0 d.lists))
 
 pub returns : goal.returns
 returns c =
@@ -16,4 +17,5 @@ returns c =
     let k = c.in_ok-shares.ensures.shares in
     let part = rw (k.in_order, k.in_lists) at k.part in
     let met = rw k.in_order at k.met in
-    rw (c.in_ok-split.ensures, c.lists.ensures.value, c.deref.ensures.value) (split_from d y c.in_ok-shares.ensures.sound part met)
+    rw (c.in_ok-split.ensures, c.lists.ensures.value, c.deref.ensures.value)
+    (split_from d y c.in_ok-shares.ensures.sound part met)

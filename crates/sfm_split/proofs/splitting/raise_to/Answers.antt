@@ -6,22 +6,32 @@ use Rattle.sfm_split.proofs.Pours.{pouring_begun}
 use Rattle.sfm_split.proofs.splitting.raise_to.Goals.{In_ok-left, In_ok-set}
 use Rattle.sfm_split.proofs.splitting.raise_to.Goals as goal
 
-cells : (c : In_ok-left) → AreCells (length c.args.demand.now.demands) (length c.args.demand.now.capacities) c.args.cells.now.whos.items c.args.cells.now.slots.items
-cells c = rw (c.requires.in_order, c.requires.in_lists) (cells_for c.args.demand.now c.demands-demands.ensures.sound)
+cells : (c : In_ok-left) → AreCells (length c.args.demand.now.demands)
+    (length c.args.demand.now.capacities) c.args.cells.now.whos.items c.args.cells.now.slots.items
+cells c = rw (c.requires.in_order, c.requires.in_lists)
+    (cells_for c.args.demand.now c.demands-demands.ensures.sound)
 
 -- the amounts as they come, with what they leave
-begun : (c : In_ok-left) → IsPouring c.args.demand.now.demands c.args.demand.now.capacities c.args.cells.now.whos.items c.args.cells.now.slots.items c.args.y.now c.args.y.now c.in_ok-left.left.lacks.items c.in_ok-left.left.rooms.items
+begun : (c : In_ok-left) → IsPouring c.args.demand.now.demands c.args.demand.now.capacities
+    c.args.cells.now.whos.items c.args.cells.now.slots.items c.args.y.now c.args.y.now
+    c.in_ok-left.left.lacks.items c.in_ok-left.left.rooms.items
 begun c =
     let d = c.args.demand.now in
     let left = c.in_ok-left.left in
     let lacks = rw c.demands-demands.ensures.value at c.in_ok-left.ensures.lacks in
     let rooms = rw c.capacities.ensures at c.in_ok-left.ensures.rooms in
-    pouring_begun d.demands d.capacities c.args.cells.now.whos.items c.args.cells.now.slots.items c.args.y.now left.lacks.items left.rooms.items c.requires.part lacks rooms
+    pouring_begun d.demands d.capacities c.args.cells.now.whos.items c.args.cells.now.slots.items
+    c.args.y.now left.lacks.items left.rooms.items c.requires.part lacks rooms
 
 -- and as they are raised
-poured : (c : In_ok-set) → AreCells (length c.args.demand.now.demands) (length c.args.demand.now.capacities) c.args.cells.now.whos.items c.args.cells.now.slots.items
-    → IsPouring c.args.demand.now.demands c.args.demand.now.capacities c.args.cells.now.whos.items c.args.cells.now.slots.items c.args.y.now c.args.y.now c.in_ok-left.left.lacks.items c.in_ok-left.left.rooms.items
-    → IsPouring c.args.demand.now.demands c.args.demand.now.capacities c.args.cells.now.whos.items c.args.cells.now.slots.items c.args.y.now c.raise_all.new.y c.raise_all.new.left.lacks.items c.raise_all.new.left.rooms.items
+poured : (c : In_ok-set) → AreCells (length c.args.demand.now.demands)
+    (length c.args.demand.now.capacities) c.args.cells.now.whos.items c.args.cells.now.slots.items
+    → IsPouring c.args.demand.now.demands c.args.demand.now.capacities c.args.cells.now.whos.items
+    c.args.cells.now.slots.items c.args.y.now c.args.y.now c.in_ok-left.left.lacks.items
+    c.in_ok-left.left.rooms.items
+    → IsPouring c.args.demand.now.demands c.args.demand.now.capacities c.args.cells.now.whos.items
+    c.args.cells.now.slots.items c.args.y.now c.raise_all.new.y c.raise_all.new.left.lacks.items
+    c.raise_all.new.left.rooms.items
 poured c lined first =
     let d = c.args.demand.now in
     let list = c.list_lacking.ensures in
@@ -31,10 +41,16 @@ poured c lined first =
 pub lefts_of-requires-clause-cells : goal.lefts_of-requires-clause-cells
 lefts_of-requires-clause-cells c =
     let d = c.args.demand.now in
-    rw (c.demands-demands.ensures.value, c.capacities.ensures, c.requires.in_order, c.requires.in_lists) (cells_for d c.demands-demands.ensures.sound)
+    rw (
+      c.demands-demands.ensures.value,
+      c.capacities.ensures,
+      c.requires.in_order,
+      c.requires.in_lists,
+    ) (cells_for d c.demands-demands.ensures.sound)
 
 pub lefts_of-requires-clause-part : goal.lefts_of-requires-clause-part
-lefts_of-requires-clause-part c = rw (c.demands-demands.ensures.value, c.capacities.ensures) c.requires.part
+lefts_of-requires-clause-part c = rw (c.demands-demands.ensures.value, c.capacities.ensures)
+    c.requires.part
 
 pub raise_all-requires : goal.raise_all-requires
 raise_all-requires c =
@@ -64,7 +80,8 @@ returns-in-Some-clause-met c =
     let end = rw c.in-Some.is at c.in_ok-set.ensures.told in
     let told = end.each d.demands d.capacities c.args.y.now lined p in
     let part = rw (c.requires.in_order, c.requires.in_lists) at p.part in
-    let lacking : IsLacking d.demands d.capacities (owners 0 d.lists) (joined d.lists) z c.in-Some.set = rw (c.requires.in_order, c.requires.in_lists) at told in
+    let lacking : IsLacking d.demands d.capacities (owners 0 d.lists) (joined d.lists) z
+    c.in-Some.set = rw (c.requires.in_order, c.requires.in_lists) at told in
     lacking_end d z c.in-Some.set c.demands-demands.ensures.sound part lacking
 
 pub returns-clause-met : goal.returns-clause-met
@@ -74,4 +91,9 @@ returns-clause-met c =
     let lined = cells path.In_ok-left in
     let p = poured path.In_ok-set lined (begun path.In_ok-left) in
     let end = rw c.in_default.is at c.in_ok-set.ensures.told in
-    record { in_order = c.requires.in_order; in_lists = c.requires.in_lists; part = p.part; met = end.each d.demands d.capacities c.args.y.now lined p }
+    record {
+      in_order = c.requires.in_order;
+      in_lists = c.requires.in_lists;
+      part = p.part;
+      met = end.each d.demands d.capacities c.args.y.now lined p;
+    }

@@ -25,14 +25,26 @@ returns g c =
     let spot = c.requires.spot in
     let count = length-meanings t.places t.value_of c.args.terms.now in
     let l : c.args.spot.term < length c.args.terms.now = omega (arith, count, spot.term_in) in
-    let m = meanings-at t.places t.value_of c.args.terms.now c.args.spot.term c.index-terms-spot.result l c.index-terms-spot.is in
-    let places : (term_at (meanings t.places t.value_of c.args.terms.now) c.args.spot.term).places ≡ c.elements.result.now = ap (λ (u : Meaning). u.places) m ∙ sym c.elements.ensures in
+    let m = meanings-at t.places t.value_of c.args.terms.now c.args.spot.term
+    c.index-terms-spot.result l c.index-terms-spot.is in
+    let places : (term_at (meanings t.places t.value_of c.args.terms.now) c.args.spot.term).places
+    ≡ c.elements.result.now = ap (λ (u : Meaning). u.places) m ∙ sym c.elements.ensures in
     let v = c.in-Some-local_of.ensures in
     let to = c.in-Some.ensures in
-    let table : table_at c.args.rows.now c.args.spot.term ≡ c.index-rows-spot.result = get_or_default c.args.rows.now c.args.spot.term [] c.index-rows-spot.result c.requires.rows ∙ sym c.index-rows-spot.is in
-    let told : bit_in (set_at (table_at c.args.rows.now c.args.spot.term) c.args.spot.local) c.in-Some.to ≡ 1 = rw (table, ← c.row-row.ensures) to.1 in
+    let table : table_at c.args.rows.now
+    c.args.spot.term ≡ c.index-rows-spot.result =
+    get_or_default c.args.rows.now c.args.spot.term [] c.index-rows-spot.result c.requires.rows
+    ∙ sym c.index-rows-spot.is in
+    let told : bit_in (set_at (table_at c.args.rows.now c.args.spot.term) c.args.spot.local)
+    c.in-Some.to ≡ 1 = rw (table, ← c.row-row.ensures) to.1 in
     record {
-      named = record { term_in = spot.term_in; u_in = spot.local_in; v_in = rw places v.0; begins = spot.at; ends = rw places v.1 };
+      named = record {
+        term_in = spot.term_in;
+        u_in = spot.local_in;
+        v_in = rw places v.0;
+        begins = spot.at;
+        ends = rw places v.1;
+      };
       told = told;
       onto = to.2;
     }

@@ -30,10 +30,21 @@ loop-k-preserved g c =
     let d_at : depth_of levels c.loop-k.at ≡ k = depth_is levels apart k c.loop-k.at inv.0 inv.1 in
     let d_to : depth_of levels hop.to ≡ k - 1 = depth_is levels apart (k - 1) hop.to lk in_level in
     let at_last = inv.2 in
-    let d_last : depth_of levels (last_of first (steps_of hops)) ≡ depth_of levels hop.to + 1 = ap (λ e. depth_of levels e) (sym at_last) ∙ (omega (arith, d_at, d_to, positive)) in
+    let d_last : depth_of levels (last_of first (steps_of hops)) ≡ depth_of levels
+    hop.to + 1 = ap (λ e. depth_of levels e) (sym at_last)
+    ∙ (omega (arith, d_at, d_to, positive)) in
     let named = rw at_last at into.named in
     let more = hops_push ts c.args.graph.now.rows.items first hops hop inv.3 named into.told in
     let falls = falls_push (depth_of levels) first (steps_of hops) (step_of hop) inv.4 d_last in
     let same = steps_of-push hops hop in
     let count = length-append hops (hop ∷ []) in
-    rw c.in_ok-push.ensures.items (lk, in_level, (sym (last-push first (steps_of hops) (step_of hop)) ∙ ap (λ s. last_of first s) (sym same)), more, rw same falls, omega (arith, count, inv.5, positive), λ _. onto)
+    rw c.in_ok-push.ensures.items (
+      lk,
+      in_level,
+      (sym (last-push first (steps_of hops) (step_of hop))
+          ∙ ap (λ s. last_of first s) (sym same)),
+      more,
+      rw same falls,
+      omega (arith, count, inv.5, positive),
+      λ _. onto,
+    )

@@ -10,8 +10,14 @@ add_behind-requires c =
     let line = c.args.line.now in
     let few = bytes-tokens line in
     let short = c.requires.short in
-    record { short = bytes-behind c.in-Some.word (tokens_of line) (tokens_of c.in-Some.rest.now) c.in-Some.ensures (omega (arith, few, short)) }
+    record {
+      short = bytes-behind c.in-Some.word (tokens_of line) (tokens_of c.in-Some.rest.now)
+          c.in-Some.ensures (omega (arith, few, short));
+    }
 
 pub returns-clause-judged : goal.returns-clause-judged
 returns-clause-judged c =
-    judged-as c.args.instance.now c.add_behind.new.instance c.args.line.now c.in-Some.word (tokens_of c.in-Some.rest.now) c.add_behind.result (record { tokens_are = c.in-Some.ensures; good_bytes = c.if-not-are_good_bytes.ensures }) c.add_behind.ensures.outcome
+    judged-as c.args.instance.now c.add_behind.new.instance c.args.line.now c.in-Some.word
+    (tokens_of c.in-Some.rest.now) c.add_behind.result
+    (record { tokens_are = c.in-Some.ensures; good_bytes = c.if-not-are_good_bytes.ensures })
+    c.add_behind.ensures.outcome

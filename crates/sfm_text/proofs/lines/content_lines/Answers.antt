@@ -12,7 +12,12 @@ loop-line-preserved c =
     record {
       text = c.in-Some.ensures.text ∙ before.text;
       done = before.done ++ line ∷ [];
-      left = before.left ∙ (ap (λ (more : List TextLine). before.done ++ more) c.in-Some.ensures.places ∙ sym (append_assoc before.done (line ∷ []) (placed_left c.next_content.new.self)));
-      spans = c.in_ok-push.ensures.items ∙ (ap (λ (items : List (ℕ × ℕ × ℕ)). items ++ span_of line ∷ []) before.spans ∙ sym (map-append span_of before.done (line ∷ [])));
-      placed = All-push (LiesIn c.args.text.now) before.done line before.placed (subst (λ (text : List ℕ). LiesIn text line) before.text c.in-Some.ensures.placed);
+      left = before.left ∙ (ap (λ (more : List TextLine). before.done ++ more)
+          c.in-Some.ensures.places ∙ sym
+          (append_assoc before.done (line ∷ []) (placed_left c.next_content.new.self)));
+      spans = c.in_ok-push.ensures.items
+          ∙ (ap (λ (items : List (ℕ × ℕ × ℕ)). items ++ span_of line ∷ []) before.spans
+          ∙ sym (map-append span_of before.done (line ∷ [])));
+      placed = All-push (LiesIn c.args.text.now) before.done line before.placed
+          (subst (λ (text : List ℕ). LiesIn text line) before.text c.in-Some.ensures.placed);
     }

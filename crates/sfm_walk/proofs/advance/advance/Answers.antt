@@ -17,7 +17,8 @@ use Rattle.sfm_walk.proofs.advance.advance.Goals.{In_ok-a}
 
 -- the amount is the greatest that the walk and its ends allow
 greatest : (g : given.Over) (c : In_ok-a g) → let t = g.T.Term in let run = c.args.run.now in
-    IsGreatest (meanings t.places t.value_of c.args.terms.now) c.args.q c.args.graph.now.bases run.z.items run.path.first run.path.hops.items c.in_ok-a.a
+    IsGreatest (meanings t.places t.value_of c.args.terms.now) c.args.q c.args.graph.now.bases
+    run.z.items run.path.first run.path.hops.items c.in_ok-a.a
 greatest g c =
     let fq : FitsSigned w128 c.args.q = c.ranges.q in
     let run = c.args.run.now in
@@ -54,7 +55,8 @@ pub most_of-most-requires-clause-under : goal.most_of-most-requires-clause-under
 most_of-most-requires-clause-under g c = rw c.deref.ensures.value c.requires.next.walk.course.under
 
 pub most_of-most-requires-clause-over : goal.most_of-most-requires-clause-over
-most_of-most-requires-clause-over g c = rw (c.deref.ensures.value, c.last-last.ensures) c.requires.next.walk.course.over
+most_of-most-requires-clause-over g c =
+    rw (c.deref.ensures.value, c.last-last.ensures) c.requires.next.walk.course.over
 
 pub most_of-most-requires-clause-small : goal.most_of-most-requires-clause-small
 most_of-most-requires-clause-small g c =
@@ -62,7 +64,9 @@ most_of-most-requires-clause-small g c =
     let bases = c.args.graph.now.bases in
     let b = c.requires.running.claimed.bounded in
     let shifts = c.requires.shifts in
-    rw c.deref.ensures.value (rest-small t.places t.value_of c.args.terms.now c.args._shift.now bases c.args.run.now.z.items c.requires.running.at.is_rest c.requires.running.small b.few_places (omega (arith, ints, shifts)))
+    rw c.deref.ensures.value (rest-small t.places t.value_of c.args.terms.now c.args._shift.now
+    bases c.args.run.now.z.items c.requires.running.at.is_rest c.requires.running.small
+    b.few_places (omega (arith, ints, shifts)))
 
 pub amount_of-requires-clause-ready : goal.amount_of-requires-clause-ready
 amount_of-requires-clause-ready g c =
@@ -71,7 +75,9 @@ amount_of-requires-clause-ready g c =
     simp to_z-of_z (ready h.claimed h.small)
 
 pub amount_of-requires-clause-movable : goal.amount_of-requires-clause-movable
-amount_of-requires-clause-movable g c = let fq : FitsSigned w128 c.args.q = c.ranges.q in simp to_z-of_z (rw c.deref-2.ensures.value c.requires.next.walk.movable)
+amount_of-requires-clause-movable g c =
+    let fq : FitsSigned w128 c.args.q = c.ranges.q in simp to_z-of_z
+    (rw c.deref-2.ensures.value c.requires.next.walk.movable)
 
 pub move_along-requires-clause-graph : goal.move_along-requires-clause-graph
 move_along-requires-clause-graph g c = own c.in_ok-a.ensures.still.claimed
@@ -85,7 +91,8 @@ move_along-requires-clause-high g c =
     let fa : FitsSigned w128 c.in_ok-a.a = search rules in
     let most = greatest g (goal.at.move_along-requires-clause-high g c).In_ok-a in
     let rest = c.requires.running.at.is_rest in
-    simp to_z-of_z (amount_small c.requires.next.walk rest.places rest c.in_ok-a.a most.under c.requires.gap)
+    simp to_z-of_z (amount_small c.requires.next.walk rest.places rest c.in_ok-a.a most.under
+    c.requires.gap)
 
 pub move_along-requires-clause-order : goal.move_along-requires-clause-order
 move_along-requires-clause-order g c =
@@ -95,25 +102,34 @@ move_along-requires-clause-order g c =
     let fq : FitsSigned w128 c.args.q = c.ranges.q in
     let fa : FitsSigned w128 c.in_ok-a.a = search rules in
     let most = greatest g (goal.at.move_along-requires-clause-order g c).In_ok-a in
-    simp to_z-of_z (rw c.in_ok-a.ensures.still.bases (in_order c.requires.next.walk rest.places rest (low h) (are_terms h m.family m.submodular) h.are_bases c.in_ok-a.a most))
+    simp to_z-of_z (rw c.in_ok-a.ensures.still.bases
+    (in_order c.requires.next.walk rest.places rest (low h) (are_terms h m.family m.submodular)
+    h.are_bases c.in_ok-a.a most))
 
 pub move_along-requires-clause-falls : goal.move_along-requires-clause-falls
-move_along-requires-clause-falls g c = (depth_of c.args.run.now.levels.items, c.requires.next.walk.course.falls)
+move_along-requires-clause-falls g c =
+    (depth_of c.args.run.now.levels.items, c.requires.next.walk.course.falls)
 
 pub settle-requires-clause-few : goal.settle-requires-clause-few
-settle-requires-clause-few g c = let few = c.requires.running.claimed.bounded.few in rw c.requires.running.at.is_rest.places few
+settle-requires-clause-few g c =
+    let few = c.requires.running.claimed.bounded.few in rw c.requires.running.at.is_rest.places few
 
 pub settle-requires-clause-first : goal.settle-requires-clause-first
-settle-requires-clause-first g c = let rest = c.requires.running.at.is_rest in first_at c.requires.next.walk rest.places rest
+settle-requires-clause-first g c =
+    let rest = c.requires.running.at.is_rest in first_at c.requires.next.walk rest.places rest
 
 pub settle-requires-clause-last : goal.settle-requires-clause-last
-settle-requires-clause-last g c = let rest = c.requires.running.at.is_rest in last_at c.requires.next.walk rest.places rest
+settle-requires-clause-last g c =
+    let rest = c.requires.running.at.is_rest in last_at c.requires.next.walk rest.places rest
 
 pub settle-requires-clause-apart : goal.settle-requires-clause-apart
-settle-requires-clause-apart g c = let rest = c.requires.running.at.is_rest in apart c.requires.next.walk rest.places rest
+settle-requires-clause-apart g c =
+    let rest = c.requires.running.at.is_rest in apart c.requires.next.walk rest.places rest
 
 pub returns-clause-graph : goal.returns-clause-graph
-returns-clause-graph g c = over_word (over_word c.requires.running.claimed c.in_ok-a.ensures.still.claimed) c.in_ok-move_along.ensures.graph
+returns-clause-graph g c = over_word
+    (over_word c.requires.running.claimed c.in_ok-a.ensures.still.claimed)
+    c.in_ok-move_along.ensures.graph
 
 pub returns-clause-advanced : goal.returns-clause-advanced
 returns-clause-advanced g c =
@@ -133,8 +149,10 @@ returns-clause-advanced g c =
     let signs = simp to_z-of_z at c.settle.ensures.signs in
     record {
       at = record {
-        is_rest = rw z_is (rest_after w rest.places rest (low h) fit h.are_bases a most after moved);
-        signs = signs (ends_moved w rest.places rest (low h) fit h.are_bases a most) c.requires.running.at.signs;
+        is_rest = rw z_is (rest_after w rest.places rest (low h) fit h.are_bases a most after
+            moved);
+        signs = signs (ends_moved w rest.places rest (low h) fit h.are_bases a most)
+            c.requires.running.at.signs;
       };
       progress = progress w rest.places rest (low h) fit h.are_bases a most after moved;
       spread = spread w rest.places rest (low h) fit h.are_bases a most after moved;
@@ -170,7 +188,15 @@ returns-clause-labels g c =
     let rest = c.requires.running.at.is_rest in
     let most = greatest g (goal.at.returns-clause-labels g c).In_ok-a in
     let labels = c.requires.next.labels in
-    let moved = rw c.in_ok-a.ensures.still.bases at (simp to_z-of_z at c.in_ok-move_along.ensures.moved) in
-    let bounds = bounds_still c.requires.next.walk rest.places rest (low h) (are_terms h m.family m.submodular) h.are_bases c.in_ok-a.a most
-    (λ e. let b = depth_bound c.args.run.now.levels.items e in let f = labels.few in omega (arith, b, f)) c.move_along.new.graph.bases moved in
-    rw c.settle.ensures.levels (record { parted = labels.parted; few = labels.few; no_faster = bounds.falls; ends = bounds.lasts })
+    let moved = rw c.in_ok-a.ensures.still.bases at
+    (simp to_z-of_z at c.in_ok-move_along.ensures.moved) in
+    let bounds = bounds_still c.requires.next.walk rest.places rest (low h)
+    (are_terms h m.family m.submodular) h.are_bases c.in_ok-a.a most
+    (λ e. let b = depth_bound c.args.run.now.levels.items
+    e in let f = labels.few in omega (arith, b, f)) c.move_along.new.graph.bases moved in
+    rw c.settle.ensures.levels (record {
+      parted = labels.parted;
+      few = labels.few;
+      no_faster = bounds.falls;
+      ends = bounds.lasts;
+    })

@@ -34,40 +34,60 @@ loop-run-init g c =
     let D : ℤ = deficit (length shift) (rest_at ts init shift) in
     let z_is = c.run_at-run.ensures.z in
     let z = c.in_ok-z.ensures in
-    let is_rest : IsRest ts shift init c.in_ok-z.z.items = rest_is r.graph.are_sums z.places (rw c.deref.ensures.value at z.exact) in
-    let start : IsImproving t c.args.terms.now c.args.q shift init c.args.graph.now c.run_at-run.result = record {
+    let is_rest : IsRest ts shift init c.in_ok-z.z.items = rest_is r.graph.are_sums z.places
+    (rw c.deref.ensures.value at z.exact) in
+    let start : IsImproving t c.args.terms.now c.args.q shift init c.args.graph.now
+    c.run_at-run.result = record {
       whole = r.graph;
       at = record { is_rest = rw z_is is_rest; signs = rw z_is c.run_at-run.ensures.signs };
       gap = r.gap;
       risen = omega (arith, ints);
       spread = λ b small. bound_is init b (b +ℤ (D -ℤ D)) small (omega (arith, ints));
     } in
-    simp to_z-of_z (start, omega arith, counting_none ts (length shift) c.args.q shift init c.args.steps.now, omega arith, rw c.run_at-run.ensures.levels (labels_none ts (length shift) c.args.q shift init))
+    simp to_z-of_z (
+      start,
+      omega arith,
+      counting_none ts (length shift) c.args.q shift init c.args.steps.now,
+      omega arith,
+      rw c.run_at-run.ensures.levels (labels_none ts (length shift) c.args.q shift init),
+    )
 
 pub next_walk-requires-clause-running : goal.next_walk-requires-clause-running
 next_walk-requires-clause-running g c =
     let fq : FitsSigned w128 c.args.q = c.ranges.q in
     let h = simp to_z-of_z at c.loop-run.invariant.0 in
-    simp to_z-of_z (record { claimed = h.whole; small = small_still h c.requires.small (10 ^ 30) (omega arith); at = h.at })
+    simp to_z-of_z
+    (record {
+      claimed = h.whole;
+      small = small_still h c.requires.small (10 ^ 30) (omega arith);
+      at = h.at;
+    })
 
 pub advance-requires-clause-running : goal.advance-requires-clause-running
-advance-requires-clause-running g c = let fq : FitsSigned w128 c.args.q = c.ranges.q in c.in_ok-next_walk.ensures.running
+advance-requires-clause-running g c =
+    let fq : FitsSigned w128 c.args.q = c.ranges.q in c.in_ok-next_walk.ensures.running
 
 pub advance-requires-clause-next : goal.advance-requires-clause-next
-advance-requires-clause-next g c = let fq : FitsSigned w128 c.args.q = c.ranges.q in c.in_ok-next_walk.ensures.next c.if-branch.true
+advance-requires-clause-next g c =
+    let fq : FitsSigned w128 c.args.q = c.ranges.q in c.in_ok-next_walk.ensures.next
+    c.if-branch.true
 
 pub advance-requires-clause-small : goal.advance-requires-clause-small
-advance-requires-clause-small g c = rw c.in_ok-next_walk.ensures.bases (small_still c.loop-run.invariant.0 c.requires.small (5 * 10 ^ 29) (omega arith))
+advance-requires-clause-small g c =
+    rw c.in_ok-next_walk.ensures.bases
+    (small_still c.loop-run.invariant.0 c.requires.small (5 * 10 ^ 29) (omega arith))
 
 pub advance-requires-clause-gap : goal.advance-requires-clause-gap
-advance-requires-clause-gap g c = rw c.in_ok-next_walk.ensures.bases (gap_still c.loop-run.invariant.0)
+advance-requires-clause-gap g c =
+    rw c.in_ok-next_walk.ensures.bases (gap_still c.loop-run.invariant.0)
 
 pub loop-run-smaller : goal.loop-run-smaller
 loop-run-smaller g c =
     let m = g.met.T.Term in
     let fq : FitsSigned w128 c.args.q = c.ranges.q in
     let inv = simp to_z-of_z at c.loop-run.invariant.0 in
-    let advanced = rw c.in_ok-next_walk.ensures.bases at (simp to_z-of_z at c.in_ok-advance.ensures.advanced) in
+    let advanced = rw c.in_ok-next_walk.ensures.bases at
+    (simp to_z-of_z at c.in_ok-advance.ensures.advanced) in
     falls inv m.family m.submodular c.advance.new.graph c.advance.new.run advanced
 
 pub loop-run-preserved : goal.loop-run-preserved
@@ -83,13 +103,24 @@ loop-run-preserved g c =
     let e = c.in_ok-advance.ensures in
     let advanced = rw c.in_ok-next_walk.ensures.bases at (simp to_z-of_z at e.advanced) in
     let after = c.advance.new.graph.bases in
-    let next = improving_after inv.0 m.family m.submodular c.advance.new.graph c.advance.new.run advanced (simp to_z-of_z at e.graph) in
-    let counting : IsCounting ts n c.args.q shift init after c.args.steps.now c.tick.new.self = counting_more ts n c.args.q shift init c.loop-run.graph.bases after c.args.steps.now c.loop-run.steps c.tick.new.self inv.2 advanced.progress c.tick.ensures in
-    simp to_z-of_z (next, omega (arith, c.loop-run.invariant.1, c.tick.ensures), counting, counting_few ts n (length c.args.terms.now) c.args.q shift init after c.args.steps.now c.tick.new.self (counted c.requires.graph) counting, simp to_z-of_z at e.labels)
+    let next = improving_after inv.0 m.family m.submodular c.advance.new.graph c.advance.new.run
+    advanced (simp to_z-of_z at e.graph) in
+    let counting : IsCounting ts n c.args.q shift init after c.args.steps.now
+    c.tick.new.self = counting_more ts n c.args.q shift init c.loop-run.graph.bases after
+    c.args.steps.now c.loop-run.steps c.tick.new.self inv.2 advanced.progress c.tick.ensures in
+    simp to_z-of_z (
+      next,
+      omega (arith, c.loop-run.invariant.1, c.tick.ensures),
+      counting,
+      counting_few ts n (length c.args.terms.now) c.args.q shift init after c.args.steps.now
+          c.tick.new.self (counted c.requires.graph) counting,
+      simp to_z-of_z at e.labels,
+    )
 
 pub tick-requires : goal.tick-requires
 tick-requires g c =
-    let few = few_walks_small (length c.args.shift.now) (length c.args.terms.now) c.requires.graph.bounded.few (rw length-map at c.requires.graph.bounded.few_terms) in
+    let few = few_walks_small (length c.args.shift.now) (length c.args.terms.now)
+    c.requires.graph.bounded.few (rw length-map at c.requires.graph.bounded.few_terms) in
     omega (arith, few, c.requires.room, c.loop-run.invariant.3)
 
 pub returns-clause-improved : goal.returns-clause-improved
@@ -108,10 +139,14 @@ returns-clause-improved g c =
         bases = h.are_bases;
         small = run.small;
         ends = none;
-        proves = prove_if_none ts c.next_walk.new.graph.bases (length shift) c.args.q shift (low h) (are_terms h m.family m.submodular) h.are_bases none;
+        proves = prove_if_none ts c.next_walk.new.graph.bases (length shift) c.args.q shift (low h)
+            (are_terms h m.family m.submodular) h.are_bases none;
       };
       rest = rw c.from_vec.ensures run.at.is_rest;
-      counted = rw c.in_ok-next_walk.ensures.bases (counting_is ts (length shift) c.args.q shift c.args.graph.now.bases c.loop-run.graph.bases c.args.steps.now c.loop-run.steps (simp to_z-of_z at c.loop-run.invariant.2));
+      counted = rw c.in_ok-next_walk.ensures.bases
+          (counting_is ts (length shift) c.args.q shift c.args.graph.now.bases
+          c.loop-run.graph.bases c.args.steps.now c.loop-run.steps
+          (simp to_z-of_z at c.loop-run.invariant.2));
       spread = rw c.in_ok-next_walk.ensures.bases c.loop-run.invariant.0.spread;
     }
 
@@ -140,7 +175,8 @@ pub returns-in_err-advance-clause-kept : goal.returns-in_err-advance-clause-kept
 returns-in_err-advance-clause-kept g c = c.loop-run.invariant.1
 
 pub next_walk-requires-clause-labels : goal.next_walk-requires-clause-labels
-next_walk-requires-clause-labels g c = let fq : FitsSigned w128 c.args.q = c.ranges.q in c.loop-run.invariant.4
+next_walk-requires-clause-labels g c =
+    let fq : FitsSigned w128 c.args.q = c.ranges.q in c.loop-run.invariant.4
 
 pub rest_from-requires-clause-same : goal.rest_from-requires-clause-same
 rest_from-requires-clause-same g c = rw c.deref.ensures.value c.requires.graph.are_sums.places
@@ -149,8 +185,12 @@ pub rest_from-requires-clause-small : goal.rest_from-requires-clause-small
 rest_from-requires-clause-small g c =
     let t = g.T.Term in
     let h = c.requires.graph in
-    let small : All (λ x. All IsEntry x) c.args.graph.now.bases = λ k d l i e lt. let s = c.requires.small k d l i e lt in record { low = omega (arith, ints, s.low); high = omega (arith, ints, s.high) } in
-    rw c.deref.ensures.value (sums_small t.places t.value_of c.args.terms.now (length c.args.shift.now) c.args.graph.now.bases c.args.graph.now.sums.items h.are_sums small h.bounded.few_places)
+    let small : All (λ x. All IsEntry x) c.args.graph.now.bases = λ k d l i e lt.
+    let s = c.requires.small k d l i e
+    lt in record { low = omega (arith, ints, s.low); high = omega (arith, ints, s.high) } in
+    rw c.deref.ensures.value (sums_small t.places t.value_of c.args.terms.now
+    (length c.args.shift.now) c.args.graph.now.bases c.args.graph.now.sums.items h.are_sums
+    small h.bounded.few_places)
 
 pub rest_from-requires-clause-shifts : goal.rest_from-requires-clause-shifts
 rest_from-requires-clause-shifts g c = let shifts = c.requires.shifts in omega (arith, ints, shifts)

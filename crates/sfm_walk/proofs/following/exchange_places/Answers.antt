@@ -17,8 +17,10 @@ record IsFound (c : After-unwrap-v) : Type 0 where
 
 found : (c : After-unwrap-v) → IsFound c
 found c =
-    let hu = match_some c.local_of.result c.unwrap-u.result _ _ c.local_of.ensures c.unwrap-u.ensures in
-    let hv = match_some c.local_of-2.result c.unwrap-v.result _ _ c.local_of-2.ensures c.unwrap-v.ensures in
+    let hu = match_some c.local_of.result c.unwrap-u.result _ _ c.local_of.ensures
+    c.unwrap-u.ensures in
+    let hv = match_some c.local_of-2.result c.unwrap-v.result _ _ c.local_of-2.ensures
+    c.unwrap-v.ensures in
     record { u_in = hu.0; v_in = hv.0; begins = hu.1; ends = hv.1 }
 
 pub exchange-requires : goal.exchange-requires
@@ -44,5 +46,12 @@ exchange-requires c =
 pub returns : goal.returns
 returns c =
     let h = found (goal.at.returns c).After-unwrap-v in
-    let fa : FitsSigned w128 c.args.a = c.ranges.a in
-    (c.unwrap-u.result, c.unwrap-v.result, h.u_in, h.v_in, h.begins, h.ends, simp to_z-of_z at c.exchange.ensures)
+    let fa : FitsSigned w128 c.args.a = c.ranges.a in (
+      c.unwrap-u.result,
+      c.unwrap-v.result,
+      h.u_in,
+      h.v_in,
+      h.begins,
+      h.ends,
+      simp to_z-of_z at c.exchange.ensures,
+    )

@@ -31,7 +31,8 @@ abbrev behind : (g : given.Over) → In-loop-to g → List Step
 behind g c = map step_of (drop (suc c.loop-to.to-index) c.as_slice-to-items.result.now)
 
 -- the walk in these parts
-split : (g : given.Over) (c : In-loop-to g) → c.args.walk.now.steps ≡ before g c ++ step g c ∷ behind g c
+split : (g : given.Over) (c : In-loop-to g)
+    → c.args.walk.now.steps ≡ before g c ++ step g c ∷ behind g c
 split g c =
     sym c.as_slice-to-items.ensures
     ∙ map_split step_of c.as_slice-to-items.result.now c.loop-to.to-index (0, 0) c.loop-to-test.true
@@ -110,7 +111,8 @@ sized g c =
 places_are : (g : given.Over) (c : After-elements g)
     → (get_or c.as_slice-to-items.result.now c.loop-to.to-index (0, 0)).1 < length c.args.terms.now
     → let t = g.T.Term in (term_at (meanings t.places t.value_of c.args.terms.now)
-    (get_or c.as_slice-to-items.result.now c.loop-to.to-index (0, 0)).1).places ≡ c.elements.result.now
+    (get_or c.as_slice-to-items.result.now c.loop-to.to-index (0, 0)).1).places
+    ≡ c.elements.result.now
 places_are g c l =
     let t = g.T.Term in
     let m = meanings-at t.places t.value_of c.args.terms.now
@@ -119,7 +121,8 @@ places_are g c l =
     ap (λ (u : Meaning). u.places) m ∙ sym c.elements.ensures
 
 pub exchange_places-requires-clause-inside : goal.exchange_places-requires-clause-inside
-exchange_places-requires-clause-inside g c = row_in g (goal.at.exchange_places-requires-clause-inside g c).In-loop-to
+exchange_places-requires-clause-inside g c =
+    row_in g (goal.at.exchange_places-requires-clause-inside g c).In-loop-to
 
 pub bounds-terms-term : goal.bounds-terms-term
 bounds-terms-term g c = inside g (goal.at.bounds-terms-term g c).In-loop-to

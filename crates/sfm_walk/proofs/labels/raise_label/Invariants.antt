@@ -7,5 +7,6 @@ abbrev pub invariant-loop-j : goal.invariant-loop-j
 invariant-loop-j l = record {
   same : l.levels.items ≡ l.initial.levels.items;
   from : l.k ≤ l.j;
-  none : (i : ℕ) → l.k ≤ i → i < l.j → (t : ℕ) → bit_in l.links t ≡ 1 → bit_in (set_at l.levels.items i) t ≡ 1 → ⊥;
+  none : (i : ℕ) → l.k ≤ i → i < l.j → (t : ℕ) → bit_in l.links t ≡ 1
+      → bit_in (set_at l.levels.items i) t ≡ 1 → ⊥;
 }

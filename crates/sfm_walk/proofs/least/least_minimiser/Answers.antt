@@ -11,11 +11,17 @@ use Rattle.sfm_walk.proofs.least.least_minimiser.Goals as goal
 use Rattle.sfm_walk.proofs.least.least_minimiser.Goals.{After-signs_of-signs}
 
 -- z is what the bases leave of the shift
-is_rest : (g : given.Over) (c : After-signs_of-signs g) → let t = g.T.Term in IsRest (meanings t.places t.value_of c.args.terms.now) c.args.shift.now c.args.graph.now.bases c.args.z.now
-is_rest g c = let (places, exact) = c.requires.rest in record { places = places; exact = λ e l. exact e (rw (← places) l) }
+is_rest : (g : given.Over) (c : After-signs_of-signs g)
+    → let t = g.T.Term in IsRest (meanings t.places t.value_of c.args.terms.now) c.args.shift.now
+    c.args.graph.now.bases c.args.z.now
+is_rest g c = let (places, exact) = c.requires.rest in record {
+  places = places;
+  exact = λ e l. exact e (rw (← places) l);
+}
 
 pub signs_of-signs-requires : goal.signs_of-signs-requires
-signs_of-signs-requires g c = rw (c.as_slice.ensures, c.requires.rest.0) c.requires.graph.bounded.few
+signs_of-signs-requires g c = rw (c.as_slice.ensures, c.requires.rest.0)
+    c.requires.graph.bounded.few
 
 pub walked_from-requires-clause-ready : goal.walked_from-requires-clause-ready
 walked_from-requires-clause-ready g c =
@@ -43,5 +49,7 @@ returns-clause-least g c =
     let ts = meanings t.places t.value_of c.args.terms.now in
     let n = length c.args.shift.now in
     let bases = c.args.graph.now.bases in
-    least_walked ts bases n c.args.q (low h) (are_terms h m.family m.submodular) h.are_bases c.args.shift.now c.requires.proves c.signs_of-signs.result.under c.in_ok-walked.walked (under_are ts n bases rest.places rest signed)
+    least_walked ts bases n c.args.q (low h) (are_terms h m.family m.submodular) h.are_bases
+    c.args.shift.now c.requires.proves c.signs_of-signs.result.under c.in_ok-walked.walked
+    (under_are ts n bases rest.places rest signed)
     c.in_ok-least.least c.in_ok-least.ensures walked

@@ -24,7 +24,9 @@ returns-clause-few g c =
     let shift = even_shift n c.args.p in
     let starts = map (λ x. t.start_of x q) c.args.terms.now in
     let h = simp to_z-of_z at c.minimise_counted.ensures.counted in
-    IfOk-weaker c.minimise_counted.result (λ r. IsCounted ts n q shift starts r.bases c.new-steps.result c.minimise_counted.new.steps) (λ r. IsFewWalks ts n q shift starts r.bases) (λ r k. (k.0, k.1, k.2)) h
+    IfOk-weaker c.minimise_counted.result
+    (λ r. IsCounted ts n q shift starts r.bases c.new-steps.result c.minimise_counted.new.steps)
+    (λ r. IsFewWalks ts n q shift starts r.bases) (λ r k. (k.0, k.1, k.2)) h
 
 pub returns-clause-plain : goal.returns-clause-plain
 returns-clause-plain g c =

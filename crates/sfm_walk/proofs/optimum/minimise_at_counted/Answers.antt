@@ -69,7 +69,8 @@ returns-clause-optimum g c =
     let t = g.T.Term in
     let ts = meanings t.places t.value_of c.args.terms.now in
     let call = c.minimise_from in
-    here g (goal.at.returns-clause-optimum g c).After-minimise_from (λ n q. IfOk call.result (IsOptimum ts n q c.args.shift.now)) call.ensures.optimum
+    here g (goal.at.returns-clause-optimum g c).After-minimise_from
+    (λ n q. IfOk call.result (IsOptimum ts n q c.args.shift.now)) call.ensures.optimum
 
 pub returns-clause-counted : goal.returns-clause-counted
 returns-clause-counted g c =

@@ -49,7 +49,8 @@ returns-clause-optimum g c =
     let t = g.T.Term in
     let ts = meanings t.places t.value_of c.args.terms.now in
     let call = c.minimise_at_counted in
-    even g (goal.at.returns-clause-optimum g c).After-minimise_at_counted (λ q shift. IfOk call.result (IsOptimum ts c.args.n q shift)) call.ensures.optimum
+    even g (goal.at.returns-clause-optimum g c).After-minimise_at_counted
+    (λ q shift. IfOk call.result (IsOptimum ts c.args.n q shift)) call.ensures.optimum
 
 pub returns-clause-counted : goal.returns-clause-counted
 returns-clause-counted g c =

@@ -44,7 +44,10 @@ pub returns-clause-optimum : goal.returns-clause-optimum
 returns-clause-optimum g c =
     let fq : FitsSigned w128 c.args.q = c.ranges.q in
     let improved = simp to_z-of_z at c.in_ok-z.ensures.improved in
-    record { optimal = rw c.into_bases.ensures improved.optimal; rest = rw c.into_bases.ensures improved.rest }
+    record {
+      optimal = rw c.into_bases.ensures improved.optimal;
+      rest = rw c.into_bases.ensures improved.rest;
+    }
 
 pub returns-clause-counted : goal.returns-clause-counted
 returns-clause-counted g c =

@@ -29,9 +29,15 @@ returns c =
     let small_first = c.requires.small c.args.first (pos 0) c.requires.first in
     let small_last = c.requires.small c.args.last (pos 0) c.requires.last in
     let fu : FitsSigned w128 u = omega (arith, ints, small_first.low, small_first.high) in
-    let fn : FitsSigned w128 (pos 0 -ℤ u) = omega (arith, ints, small_first.low, small_first.high) in
+    let fn : FitsSigned w128 (pos 0 -ℤ u) = omega (
+      arith,
+      ints,
+      small_first.low,
+      small_first.high,
+    ) in
     let fv : FitsSigned w128 v = omega (arith, ints, small_last.low, small_last.high) in
     let fr : FitsSigned w128 c.min.result = record { sfits = c.min.type_inv } in
     let m : c.min.result ≡ int_min v (pos 0 -ℤ u) = simp to_z-of_z at c.min.ensures.value in
     let h = lesser u v (pos 0 -ℤ u) refl c.requires.under c.requires.over in
-    simp to_z-of_z (rw m (record { some = h.some; under = h.under; over = h.over; greatest = h.greatest }))
+    simp to_z-of_z
+    (rw m (record { some = h.some; under = h.under; over = h.over; greatest = h.greatest }))

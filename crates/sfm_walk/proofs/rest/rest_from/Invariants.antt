@@ -4,4 +4,5 @@ use Rattle.sfm_walk.proofs.rest.rest_from.Given as goal
 
 abbrev pub invariant-loop-e : goal.invariant-loop-e
 invariant-loop-e l = (length l.z.items ≡ l.e)
-    × ((k : ℕ) → k < l.e → get_or l.z.items k (pos 0) ≡ (get_or l.sums k (pos 0) -ℤ get_or l.shift k (pos 0)))
+    × ((k : ℕ) → k < l.e → get_or l.z.items k
+    (pos 0) ≡ (get_or l.sums k (pos 0) -ℤ get_or l.shift k (pos 0)))

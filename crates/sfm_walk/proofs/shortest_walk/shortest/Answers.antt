@@ -14,28 +14,41 @@ use Rattle.sfm_walk.proofs.shortest_walk.shortest.Goals as goal
 use Rattle.sfm_walk.proofs.shortest_walk.shortest.Goals.{After-deref, After-deref-2}
 
 -- the marks of the places
-marked : (g : given.Over) (c : After-deref g) → AreMarks c.args.to.now c.args.from c.deref.result.now
+marked : (g : given.Over) (c : After-deref g)
+    → AreMarks c.args.to.now c.args.from c.deref.result.now
 marked g c =
     let r = c.requires in
-    rw (c.deref.ensures.value, c.in_ok-z.ensures) (are_marks c.args.to.now c.args.from r.from r.apart)
+    rw (c.deref.ensures.value, c.in_ok-z.ensures)
+    (are_marks c.args.to.now c.args.from r.from r.apart)
 
 -- what is known of them and of the shift at which z is what they are
 record IsMarked (g : given.Over) (c : After-deref-2 g) : Type 0 where
   marks : AreMarks c.args.to.now c.args.from c.deref.result.now
-  fit : let t = g.T.Term in AreTerms (length c.args.to.now) (meanings t.places t.value_of c.args.terms.now)
-  shifted : let t = g.T.Term in IsRest (meanings t.places t.value_of c.args.terms.now) c.deref.result.now c.args.bases.now c.deref-2.result.now
+  fit : let t = g.T.Term in AreTerms (length c.args.to.now)
+      (meanings t.places t.value_of c.args.terms.now)
+  shifted : let t = g.T.Term in IsRest (meanings t.places t.value_of c.args.terms.now)
+      c.deref.result.now c.args.bases.now c.deref-2.result.now
   count : length c.deref-2.result.now ≡ length c.args.to.now
   low : pos 0 ≤ℤ c.args.q
 
 known : (g : given.Over) (c : After-deref-2 g) → IsMarked g c
-known g c = record { marks = marks; fit = fit; shifted = shifted; count = shifted.places ∙ marks.places; low = omega (arith, ints, factor) } where
+known g c = record {
+  marks = marks;
+  fit = fit;
+  shifted = shifted;
+  count = shifted.places
+      ∙ marks.places;
+  low = omega (arith, ints, factor);
+} where
   factor : pos 1 ≤ℤ c.args.q
   factor = c.requires.factor.low
 
   marks : AreMarks c.args.to.now c.args.from c.deref.result.now
-  marks = let r = c.requires in rw (c.deref.ensures.value, c.in_ok-z.ensures) (are_marks c.args.to.now c.args.from r.from r.apart)
+  marks = let r = c.requires in rw (c.deref.ensures.value, c.in_ok-z.ensures)
+      (are_marks c.args.to.now c.args.from r.from r.apart)
 
-  fit : let t = g.T.Term in AreTerms (length c.args.to.now) (meanings t.places t.value_of c.args.terms.now)
+  fit : let t = g.T.Term in AreTerms (length c.args.to.now)
+      (meanings t.places t.value_of c.args.terms.now)
   fit =
       let t = g.T.Term in
       let m = g.met.T.Term in
@@ -43,7 +56,8 @@ known g c = record { marks = marks; fit = fit; shifted = shifted; count = shifte
       meanings-terms n t.places t.value_of m.family m.submodular c.args.terms.now
       (placed-meanings n t.places t.value_of c.args.terms.now c.requires.bounded.placed)
 
-  shifted : let t = g.T.Term in IsRest (meanings t.places t.value_of c.args.terms.now) c.deref.result.now c.args.bases.now c.deref-2.result.now
+  shifted : let t = g.T.Term in IsRest (meanings t.places t.value_of c.args.terms.now)
+      c.deref.result.now c.args.bases.now c.deref-2.result.now
   shifted = rw c.deref-2.ensures.value c.in_ok-shift.ensures
 
 pub rest_of-requires-clause-placed : goal.rest_of-requires-clause-placed
@@ -83,7 +97,8 @@ searched_walk-requires g c =
     c.args.to.now c.args.from c.deref.result.now c.deref-2.result.now refl r.from r.apart
     k.marks k.shifted in
     simp to_z-of_z (record {
-      claimed = rw k.count (whole_claimed (record { bounded = r.bounded; factor = r.factor; exact = exact }));
+      claimed = rw k.count (whole_claimed
+          (record { bounded = r.bounded; factor = r.factor; exact = exact }));
       small = rw (c.in_ok-graph.ensures.bases, c.in_ok-copied.ensures) r.small;
       at = record {
         is_rest = rw (c.in_ok-graph.ensures.bases, c.in_ok-copied.ensures, c.run_at-run.ensures.z)
@@ -99,7 +114,12 @@ returns-then-not-branch g c =
     let r = c.requires in
     let k = known g (goal.at.returns-then-not-branch g c).After-deref-2 in
     let ts = meanings t.places t.value_of c.args.terms.now in
-    let none = simp to_z-of_z at (rw (c.in_ok-searched_walk.ensures.bases, c.in_ok-graph.ensures.bases, c.in_ok-copied.ensures)
+    let none = simp to_z-of_z at
+    (rw (
+      c.in_ok-searched_walk.ensures.bases,
+      c.in_ok-graph.ensures.bases,
+      c.in_ok-copied.ensures,
+    )
     at (c.in_ok-searched_walk.ensures.ends c.if-not-branch.true)) in
     none_leads ts c.args.bases.now (length c.args.to.now) c.args.q k.low k.fit r.bases
     c.args.to.now c.args.from c.deref.result.now c.deref-2.result.now refl r.from r.apart
@@ -114,7 +134,11 @@ returns g c =
     let ts = meanings t.places t.value_of c.args.terms.now in
     let run = c.searched_walk.new.run in
     let next = simp to_z-of_z at (c.in_ok-searched_walk.ensures.next c.if-not-branch.false) in
-    let walk = rw (c.in_ok-searched_walk.ensures.bases, c.in_ok-graph.ensures.bases, c.in_ok-copied.ensures)
+    let walk = rw (
+      c.in_ok-searched_walk.ensures.bases,
+      c.in_ok-graph.ensures.bases,
+      c.in_ok-copied.ensures,
+    )
     at next.walk in
     rw (c.in_ok-steps.ensures, c.deref-3.ensures.value)
     (one_leads ts c.args.bases.now (length c.args.to.now) c.args.q k.low k.fit r.bases

@@ -22,5 +22,6 @@ returns-in-Ok g c = λ yes.
       begins,
       ends,
       apart,
-      base_within_room c.args.a r.based.base (rw r.based.entries lu) (rw r.based.entries lv) apart r.low (c.in-Ok.room, c.in-Ok.ensures.room, within),
+      base_within_room c.args.a r.based.base (rw r.based.entries lu) (rw r.based.entries lv) apart
+          r.low (c.in-Ok.room, c.in-Ok.ensures.room, within),
     )

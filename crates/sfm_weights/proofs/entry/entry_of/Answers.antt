@@ -9,4 +9,6 @@ returns-in_default c = λ entry h. c.in_default.ensures entry h.0
 
 pub returns-then-is_separator : goal.returns-then-is_separator
 returns-then-is_separator c = λ entry h.
-    h.1 (subst (λ (e : List ℕ × Option (List ℕ)). IsSeparator e.0) (weighed-same c.args.token.now (c.in-Some.element.now, text_at c.in-Some.weight) entry c.in-Some.ensures h.0) (c.if-is_separator.ensures.0 refl))
+    h.1 (subst (λ (e : List ℕ × Option (List ℕ)). IsSeparator e.0)
+    (weighed-same c.args.token.now (c.in-Some.element.now, text_at c.in-Some.weight) entry
+    c.in-Some.ensures h.0) (c.if-is_separator.ensures.0 refl))

@@ -10,7 +10,8 @@ invariant-loop-token l = record {
   entries : List (List ℕ × Option (List ℕ));
   parts : tokens_of l.line ≡ marked ++ tokens_of l.left;
   each : AllZip IsEntryOf marked entries;
-  copied : tokens_of l.plain.items ≡ tokens_of l.initial.plain.items ++ map (λ entry. entry.0) entries;
+  copied : tokens_of l.plain.items ≡ tokens_of l.initial.plain.items ++ map (λ entry. entry.0)
+      entries;
 }
 
 abbrev pub decreases-loop-token : goal.decreases-loop-token

@@ -5,8 +5,10 @@ use Rattle.sfm_weights.proofs.Entries.{AreLeft}
 use Rattle.sfm_weights.proofs.weights.are_weights.Given as goal
 
 abbrev pub invariant-loop-token : goal.invariant-loop-token
-invariant-loop-token l = (plain : List (List ℕ)) (entries : List (List ℕ × Option (List ℕ))) → IsUnweighed (tokens_of l.line) plain entries
-    → AreLeft (λ entry. (value : ℤ) → IsWeightText entry.1 value → ⊥) (λ entry. (value : ℤ) × IsWeightText entry.1 value) entries (tokens_of l.left)
+invariant-loop-token l = (plain : List (List ℕ)) (entries : List (List ℕ × Option (List ℕ)))
+    → IsUnweighed (tokens_of l.line) plain entries
+    → AreLeft (λ entry. (value : ℤ) → IsWeightText entry.1 value → ⊥)
+    (λ entry. (value : ℤ) × IsWeightText entry.1 value) entries (tokens_of l.left)
 
 abbrev pub decreases-loop-token : goal.decreases-loop-token
 decreases-loop-token l = length l.left

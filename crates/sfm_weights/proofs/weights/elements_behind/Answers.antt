@@ -12,7 +12,9 @@ returns-then-is_colon c = λ head behind h.
     let inv = c.loop-token.invariant in
     behind-same (tokens_of c.args.line.now) inv.head (tokens_of c.in-Some.behind.now) head behind
     (record {
-      cut = inv.parts ∙ ap (λ (l : List (List ℕ)). inv.head ++ l) (c.in-Some.ensures.cut ∙ ap (λ (t : List ℕ). t ∷ tokens_of c.in-Some.behind.now) c.if-is_colon.ensures);
+      cut = inv.parts ∙ ap (λ (l : List (List ℕ)). inv.head ++ l)
+          (c.in-Some.ensures.cut ∙ ap (λ (t : List ℕ). t ∷ tokens_of c.in-Some.behind.now)
+          c.if-is_colon.ensures);
       no_colon = inv.no_colon;
     }) h
 
@@ -29,5 +31,7 @@ loop-token-preserved c =
 pub returns : goal.returns
 returns c = λ head behind h.
     let inv = c.loop-token.invariant in
-    let whole : tokens_of c.args.line.now ≡ inv.head = inv.parts ∙ (ap (λ (l : List (List ℕ)). inv.head ++ l) c.in_default.ensures.cut ∙ append-nil inv.head) in
+    let whole : tokens_of c.args.line.now ≡ inv.head = inv.parts
+    ∙ (ap (λ (l : List (List ℕ)). inv.head ++ l) c.in_default.ensures.cut
+    ∙ append-nil inv.head) in
     absurd (no-head (tokens_of c.args.line.now) inv.head head behind whole inv.no_colon h)

@@ -11,19 +11,28 @@ abbrev Right : List ℕ × Option (List ℕ) → Type 0
 Right entry = entry.1 ≡ None
 
 pub loop-token-init : goal.loop-token-init
-loop-token-init c = λ plain entries h. left-all Wrong Right entries _ h.behind (line-entries (tokens_of c.args.line.now) (tokens_of c.elements_behind-left.result.now) plain entries c.elements_behind-left.ensures h)
+loop-token-init c = λ plain entries h. left-all Wrong Right entries _ h.behind
+    (line-entries (tokens_of c.args.line.now) (tokens_of c.elements_behind-left.result.now) plain
+    entries c.elements_behind-left.ensures h)
 
 pub returns-then-is_semicolon : goal.returns-then-is_semicolon
 returns-then-is_semicolon c = λ plain entries h.
-    left-none Wrong Right entries (tokens_of c.loop-token.left.now) (at-semicolon _ c.in-Some.token.now (tokens_of c.in-Some.behind.now) c.in-Some.ensures.cut c.if-is_semicolon.ensures) (c.loop-token.invariant plain entries h)
+    left-none Wrong Right entries (tokens_of c.loop-token.left.now)
+    (at-semicolon _ c.in-Some.token.now (tokens_of c.in-Some.behind.now) c.in-Some.ensures.cut
+    c.if-is_semicolon.ensures) (c.loop-token.invariant plain entries h)
 
 pub returns-then-has_weight : goal.returns-then-has_weight
 returns-then-has_weight c = λ plain entries h.
-    left-wrong Wrong Right entries (tokens_of c.loop-token.left.now) c.in-Some.token.now (tokens_of c.in-Some.behind.now) c.in-Some.ensures.cut c.if-is_semicolon.ensures (c.loop-token.invariant plain entries h) c.if-has_weight.ensures
+    left-wrong Wrong Right entries (tokens_of c.loop-token.left.now) c.in-Some.token.now
+    (tokens_of c.in-Some.behind.now) c.in-Some.ensures.cut c.if-is_semicolon.ensures
+    (c.loop-token.invariant plain entries h) c.if-has_weight.ensures
 
 pub loop-token-preserved : goal.loop-token-preserved
 loop-token-preserved c = λ plain entries h.
-    left-next Wrong Right entries (tokens_of c.loop-token.left.now) c.in-Some.token.now (tokens_of c.in-Some.behind.now) c.in-Some.ensures.cut c.if-is_semicolon.ensures (c.loop-token.invariant plain entries h) c.if-has_weight.ensures
+    left-next Wrong Right entries (tokens_of c.loop-token.left.now) c.in-Some.token.now
+    (tokens_of c.in-Some.behind.now) c.in-Some.ensures.cut c.if-is_semicolon.ensures
+    (c.loop-token.invariant plain entries h) c.if-has_weight.ensures
 
 pub returns : goal.returns
-returns c = λ plain entries h. left-none Wrong Right entries (tokens_of c.loop-token.left.now) (inl c.in_default.ensures.cut) (c.loop-token.invariant plain entries h)
+returns c = λ plain entries h. left-none Wrong Right entries (tokens_of c.loop-token.left.now)
+    (inl c.in_default.ensures.cut) (c.loop-token.invariant plain entries h)

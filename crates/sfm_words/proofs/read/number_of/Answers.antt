@@ -9,5 +9,8 @@ use Rattle.sfm_words.proofs.read.number_of.Goals as goal
 
 pub returns : goal.returns
 returns c =
-    number_is (λ bs r. ParsesUnsigned 64 10 bs r × ExplainsUnsignedError 10 bs r × HasUnsignedDigitsIfOk bs r) (λ text r told. told.0) (one_text (found_of c.args.found.now) c.args.id.now) c.get_one.result c.get_one.ensures.none c.get_one.ensures.value
+    number_is (λ bs r. ParsesUnsigned 64 10 bs r × ExplainsUnsignedError 10 bs r
+    × HasUnsignedDigitsIfOk bs r) (λ text r told. told.0)
+    (one_text (found_of c.args.found.now) c.args.id.now) c.get_one.result c.get_one.ensures.none
+    c.get_one.ensures.value
     ∙ ap (option_and_then parsed_number) (one_text-rows (found_of c.args.found.now) c.args.id.now)

@@ -12,16 +12,29 @@ find_amounts-requires c =
     record {
       sized = r.sized;
       slots = r.slots;
-      sound = other_demands k.demand c.demands-sound.ensures.sound c.args.demands.now c.args.capacities.now r.sized r.slots r.amounts r.bounded;
+      sound = other_demands k.demand c.demands-sound.ensures.sound c.args.demands.now
+          c.args.capacities.now r.sized r.slots r.amounts r.bounded;
       met = k.met;
       left = rw c.deref.ensures.value k.left;
     }
 
 pub copy_from-requires : goal.copy_from-requires
-copy_from-requires c = let r = c.requires in record { places = r.sized; slots = r.slots; amounts = r.amounts; bounded = r.bounded }
+copy_from-requires c = let r = c.requires in record {
+  places = r.sized;
+  slots = r.slots;
+  amounts = r.amounts;
+  bounded = r.bounded;
+}
 
 pub invariant_of-self : goal.invariant_of-self
-invariant_of-self c = let k = c.args.self.now in record { met = k.met; left = k.left; few = k.few; each = k.each; asked = k.asked; known = k.known }
+invariant_of-self c = let k = c.args.self.now in record {
+  met = k.met;
+  left = k.left;
+  few = k.few;
+  each = k.each;
+  asked = k.asked;
+  known = k.known;
+}
 
 pub invariant_of-self-2 : goal.invariant_of-self-2
 invariant_of-self-2 c =
@@ -30,9 +43,20 @@ invariant_of-self-2 c =
     let k = c.args.self.now in
     let cells = k.shares.cells in
     let told = c.copy_from.ensures in
-    let long : length c.copy_from.new.self.demands ≡ length k.demand.demands = ap (λ (d : Demands). length d.demands) told ∙ c.requires.sized in
-    let (few, known) = answers_anew (length c.copy_from.new.self.demands) cells.whos.items cells.slots.items c.put.new.y.items c.put.new.rooms.items k.beside.answers c.put.new.self.answers (length k.demand.demands) k.few long put.same put.none in
-    record { met = rw (told, put.amounts) found.met; left = rw (told, put.amounts, put.rooms) found.rooms; few = few; each = ap length put.asking ∙ (k.each ∙ sym long); asked = λ h. absurd (both_ways _ put.counted h); known = known }
+    let long : length c.copy_from.new.self.demands ≡ length
+    k.demand.demands = ap (λ (d : Demands). length d.demands) told ∙ c.requires.sized in
+    let (few, known) = answers_anew (length c.copy_from.new.self.demands) cells.whos.items
+    cells.slots.items c.put.new.y.items c.put.new.rooms.items k.beside.answers
+    c.put.new.self.answers (length k.demand.demands) k.few long put.same put.none in
+    record {
+      met = rw (told, put.amounts) found.met;
+      left = rw (told, put.amounts, put.rooms) found.rooms;
+      few = few;
+      each = ap length put.asking
+          ∙ (k.each ∙ sym long);
+      asked = λ h. absurd (both_ways _ put.counted h);
+      known = known;
+    }
 
 pub returns-clause-brought : goal.returns-clause-brought
 returns-clause-brought c = c.copy_from.ensures

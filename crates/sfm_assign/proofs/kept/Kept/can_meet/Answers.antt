@@ -9,12 +9,17 @@ use Rattle.sfm_assign.proofs.kept.Kept.can_meet.Goals as goal
 
 -- the other demands over the same lists
 abbrev wanted : After-demands-sound → Demands
-wanted c = record { demands = c.args.aim.now.demands.now; lists = c.args.self.now.demand.lists; capacities = c.args.aim.now.capacities.now }
+wanted c = record {
+  demands = c.args.aim.now.demands.now;
+  lists = c.args.self.now.demand.lists;
+  capacities = c.args.aim.now.capacities.now;
+}
 
 sound : (c : After-demands-sound) → AreDemands (wanted c)
 sound c =
     let r = c.requires in
-    other_demands c.args.self.now.demand c.demands-sound.ensures.sound c.args.aim.now.demands.now c.args.aim.now.capacities.now r.sized r.slots r.amounts r.bounded
+    other_demands c.args.self.now.demand c.demands-sound.ensures.sound c.args.aim.now.demands.now
+    c.args.aim.now.capacities.now r.sized r.slots r.amounts r.bounded
 
 pub find_amounts-requires : goal.find_amounts-requires
 find_amounts-requires c =
@@ -32,8 +37,14 @@ pub returns-in-Ok : goal.returns-in-Ok
 returns-in-Ok c =
     let d = wanted (goal.at.returns-in-Ok c).After-demands-sound in
     let y = c.find_amounts.new.work.y.items in
-    let (part, met, left) = over_lists d _ _ y _ c.in-Ok.ensures.met c.in-Ok.ensures.rooms in
-    ((λ t. (cut d.lists y, split_from d y (sound (goal.at.returns-in-Ok c).After-demands-sound) part met)), (λ h. refl))
+    let (part, met, left) = over_lists d _ _ y _ c.in-Ok.ensures.met c.in-Ok.ensures.rooms in (
+      (λ t. (
+        cut d.lists y,
+        split_from d y (sound (goal.at.returns-in-Ok c).After-demands-sound) part
+            met,
+      )),
+      (λ h. refl),
+    )
 
 pub returns-in-Err-Shortage : goal.returns-in-Err-Shortage
 returns-in-Err-Shortage c =

@@ -11,7 +11,13 @@ find_more-requires c =
     let fq : FitsSigned w128 c.args.limit = c.ranges.limit in
     let k = c.args.self.now in
     let r = c.requires in
-    record { met = k.met; left = rw c.deref.ensures.value k.left; place = r.place; low = simp to_z-of_z r.low; small = simp to_z-of_z r.small }
+    record {
+      met = k.met;
+      left = rw c.deref.ensures.value k.left;
+      place = r.place;
+      low = simp to_z-of_z r.low;
+      small = simp to_z-of_z r.small;
+    }
 
 pub raise-requires : goal.raise-requires
 raise-requires c =
@@ -20,7 +26,14 @@ raise-requires c =
     record { place = c.requires.place; amount = simp to_z-of_z c.in_ok-more.ensures.amount }
 
 pub invariant_of-self : goal.invariant_of-self
-invariant_of-self c = let k = c.args.self.now in record { met = k.met; left = k.left; few = k.few; each = k.each; asked = k.asked; known = k.known }
+invariant_of-self c = let k = c.args.self.now in record {
+  met = k.met;
+  left = k.left;
+  few = k.few;
+  each = k.each;
+  asked = k.asked;
+  known = k.known;
+}
 
 pub invariant_of-self-2 : goal.invariant_of-self-2
 invariant_of-self-2 c =
@@ -31,9 +44,21 @@ invariant_of-self-2 c =
     let done = c.in_ok-more.ensures in
     let put = c.put.ensures in
     let told = simp to_z-of_z at c.raise.ensures in
-    let long : length c.raise.new.self.demands ≡ length k.demand.demands = ap (λ (d : Demands). length d.demands) c.raise.ensures ∙ length-set k.demand.demands c.args.u _ in
-    let (few, known) = answers_anew (length c.raise.new.self.demands) cells.whos.items cells.slots.items c.put.new.y.items c.put.new.rooms.items k.beside.answers c.put.new.self.answers (length k.demand.demands) k.few long put.same put.none in
-    record { met = rw (told, put.amounts) done.met; left = rw (told, put.amounts, put.rooms) done.left; few = few; each = ap length put.asking ∙ (k.each ∙ sym long); asked = λ h. absurd (both_ways _ put.counted h); known = known }
+    let long : length c.raise.new.self.demands ≡ length
+    k.demand.demands = ap (λ (d : Demands). length d.demands) c.raise.ensures
+    ∙ length-set k.demand.demands c.args.u _ in
+    let (few, known) = answers_anew (length c.raise.new.self.demands) cells.whos.items
+    cells.slots.items c.put.new.y.items c.put.new.rooms.items k.beside.answers
+    c.put.new.self.answers (length k.demand.demands) k.few long put.same put.none in
+    record {
+      met = rw (told, put.amounts) done.met;
+      left = rw (told, put.amounts, put.rooms) done.left;
+      few = few;
+      each = ap length put.asking
+          ∙ (k.each ∙ sym long);
+      asked = λ h. absurd (both_ways _ put.counted h);
+      known = known;
+    }
 
 pub returns-clause-grown : goal.returns-clause-grown
 returns-clause-grown c = c.raise.ensures

@@ -14,11 +14,13 @@ find_raised-requires c =
     let r = c.requires in
     let aim = c.args.aim.now in
     let other = c.demands-other.ensures.sound in
-    let sized = r.sized ∙ (sym c.demands-sound.ensures.sound.same ∙ (ap length r.lists ∙ other.same)) in
+    let sized = r.sized ∙ (sym c.demands-sound.ensures.sound.same
+    ∙ (ap length r.lists ∙ other.same)) in
     record {
       sized = sized;
       slots = r.other_slots;
-      sound = other_demands c.args.from.now.demand other aim.demands.now aim.capacities.now sized r.other_slots r.amounts r.bounded;
+      sound = other_demands c.args.from.now.demand other aim.demands.now aim.capacities.now sized
+          r.other_slots r.amounts r.bounded;
       met = rw r.lists at r.met;
       place = r.place;
       low = simp to_z-of_z r.low;
@@ -26,16 +28,31 @@ find_raised-requires c =
     }
 
 pub copy_from-requires : goal.copy_from-requires
-copy_from-requires c = let r = c.requires in record { places = r.sized; slots = r.slots; amounts = r.amounts; bounded = r.bounded }
+copy_from-requires c = let r = c.requires in record {
+  places = r.sized;
+  slots = r.slots;
+  amounts = r.amounts;
+  bounded = r.bounded;
+}
 
 pub raise-requires : goal.raise-requires
 raise-requires c =
     let more : ℤ = c.in_ok-more.more in
     let fm : FitsSigned w128 more = search rules in
-    record { place = rw c.copy_from.ensures c.requires.place; amount = rw c.copy_from.ensures (simp to_z-of_z c.in_ok-more.ensures.amount) }
+    record {
+      place = rw c.copy_from.ensures c.requires.place;
+      amount = rw c.copy_from.ensures (simp to_z-of_z c.in_ok-more.ensures.amount);
+    }
 
 pub invariant_of-self : goal.invariant_of-self
-invariant_of-self c = let k = c.args.self.now in record { met = k.met; left = k.left; few = k.few; each = k.each; asked = k.asked; known = k.known }
+invariant_of-self c = let k = c.args.self.now in record {
+  met = k.met;
+  left = k.left;
+  few = k.few;
+  each = k.each;
+  asked = k.asked;
+  known = k.known;
+}
 
 pub invariant_of-self-2 : goal.invariant_of-self-2
 invariant_of-self-2 c =
@@ -47,10 +64,17 @@ invariant_of-self-2 c =
     let fm : FitsSigned w128 more = search rules in
     let done = c.in_ok-more.ensures in
     let e = simp to_z-of_z at c.raise.ensures in
-    let whos : s.shares.cells.whos.items ≡ o.shares.cells.whos.items = s.met.in_order ∙ (ap (owners 0) r.lists ∙ sym o.met.in_order) in
-    let slots : s.shares.cells.slots.items ≡ o.shares.cells.slots.items = s.met.in_lists ∙ (ap joined r.lists ∙ sym o.met.in_lists) in
-    let long : length c.raise.new.self.demands ≡ length s.demand.demands = (ap (λ (d : Demands). length d.demands) (rw c.copy_from.ensures at c.raise.ensures) ∙ length-set c.args.aim.now.demands.now c.args.u _) ∙ r.sized in
-    let (few, known) = answers_anew (length c.raise.new.self.demands) s.shares.cells.whos.items s.shares.cells.slots.items c.put.new.y.items c.put.new.rooms.items s.beside.answers c.put.new.self.answers (length s.demand.demands) s.few long put.same put.none in
+    let whos : s.shares.cells.whos.items ≡ o.shares.cells.whos.items = s.met.in_order
+    ∙ (ap (owners 0) r.lists ∙ sym o.met.in_order) in
+    let slots : s.shares.cells.slots.items ≡ o.shares.cells.slots.items = s.met.in_lists
+    ∙ (ap joined r.lists ∙ sym o.met.in_lists) in
+    let long : length c.raise.new.self.demands ≡ length
+    s.demand.demands = (ap (λ (d : Demands). length d.demands)
+    (rw c.copy_from.ensures at c.raise.ensures) ∙ length-set c.args.aim.now.demands.now c.args.u
+    _) ∙ r.sized in
+    let (few, known) = answers_anew (length c.raise.new.self.demands) s.shares.cells.whos.items
+    s.shares.cells.slots.items c.put.new.y.items c.put.new.rooms.items s.beside.answers
+    c.put.new.self.answers (length s.demand.demands) s.few long put.same put.none in
     record {
       met = rw (e, c.copy_from.ensures, put.amounts, whos, slots, r.lists) done.met;
       left = rw (e, c.copy_from.ensures, put.amounts, put.rooms, slots) done.left;

@@ -20,7 +20,8 @@ times-requires-2 c =
     let fm : FitsSigned w128 c.args.m = c.ranges.m in
     let k = c.args.self.now in
     let r = c.requires in
-    simp to_z-of_z (amounts_times c.args.m r.low k.demand _ _ k.shares.y.items k.met c.demands-sound.ensures.sound r.amounts)
+    simp to_z-of_z (amounts_times c.args.m r.low k.demand _ _ k.shares.y.items k.met
+    c.demands-sound.ensures.sound r.amounts)
 
 -- m times the demands, over m times the capacities
 multiple : (c : In_ok-shares) → c.in_ok-demand.demand ≡ record {
@@ -37,8 +38,10 @@ around-requires c =
     let fm : FitsSigned w128 c.args.m = c.ranges.m in
     let k = c.args.self.now in
     let s = c.in_ok-shares.ensures in
-    let amounts : c.in_ok-shares.shares.y.items ≡ map (λ a. c.args.m *ℤ a) k.shares.y.items = simp to_z-of_z at s.amounts in
-    rw (multiple c, s.whos, s.slots, amounts) (met_times c.args.m c.requires.low k.demand _ _ k.shares.y.items k.met)
+    let amounts : c.in_ok-shares.shares.y.items ≡ map (λ a. c.args.m *ℤ a)
+    k.shares.y.items = simp to_z-of_z at s.amounts in
+    rw (multiple c, s.whos, s.slots, amounts)
+    (met_times c.args.m c.requires.low k.demand _ _ k.shares.y.items k.met)
 
 pub returns : goal.returns
 returns c = rw (multiple (goal.at.returns c).In_ok-shares) at c.around.ensures

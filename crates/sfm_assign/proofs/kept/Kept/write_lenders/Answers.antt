@@ -15,7 +15,9 @@ returns-then-room-clause-reached c =
     let (part, met, left) = over_lists k.demand _ _ k.shares.y.items k.rooms.items k.met k.left in
     let room = rw (k.met.in_order, k.met.in_lists) at (rw c.if-room.true at c.requires.led) in
     let long = ap length c.write_others.ensures ∙ (length-set asking u false ∙ each) in
-    λ v lv. written_room k.demand c.demands-sound.ensures.sound u c.requires.place k.shares.y.items k.rooms.items part met left room asking each asked c.write_others.new.to c.write_others.ensures v (omega (arith, lv, long))
+    λ v lv. written_room k.demand c.demands-sound.ensures.sound u c.requires.place k.shares.y.items
+    k.rooms.items part met left room asking each asked c.write_others.new.to
+    c.write_others.ensures v (omega (arith, lv, long))
 
 pub returns-clause-reached : goal.returns-clause-reached
 returns-clause-reached c =
@@ -25,4 +27,6 @@ returns-clause-reached c =
     let (part, met, left) = over_lists k.demand _ _ k.shares.y.items k.rooms.items k.met k.left in
     let led = rw (k.met.in_order, k.met.in_lists) at (rw c.if-room.false at c.requires.led) in
     let long = ap length c.remove.ensures ∙ (length-set to u false ∙ c.requires.room_for_answer) in
-    λ v lv. written_led k.demand c.demands-sound.ensures.sound u c.requires.place k.shares.y.items k.rooms.items part met left (set to u true) led c.remove.new.self (c.remove.ensures ∙ sym (set-set to u true false)) v (omega (arith, lv, long))
+    λ v lv. written_led k.demand c.demands-sound.ensures.sound u c.requires.place k.shares.y.items
+    k.rooms.items part met left (set to u true) led c.remove.new.self
+    (c.remove.ensures ∙ sym (set-set to u true false)) v (omega (arith, lv, long))

@@ -13,12 +13,14 @@ find-requires c =
     let inv = c.loop-own.invariant in
     let same = r.told.cells.same in
     let lc = r.cell in
-    let (lt, mine) = pass_here c.args.shares.now.cells.slots_grouped (rw c.all-cells.ensures at c.list-own-items.ensures) c.loop-own-test.true in
+    let (lt, mine) = pass_here c.args.shares.now.cells.slots_grouped
+    (rw c.all-cells.ensures at c.list-own-items.ensures) c.loop-own-test.true in
     record {
       told = r.told;
       own = omega (arith, lt, same);
       other = lc;
-      shared = mine ∙ get_or_read c.args.shares.now.cells.slots.items c.args.e c.index-s.result.now (omega (arith, lc, same)) (rw c.all-cells.ensures at c.index-s.ensures) 0;
+      shared = mine ∙ get_or_read c.args.shares.now.cells.slots.items c.args.e c.index-s.result.now
+          (omega (arith, lc, same)) (rw c.all-cells.ensures at c.index-s.ensures) 0;
       found = inv.wider.kept (label_at c.args.shares.now.cells.whos.items c.args.e) r.found;
       spread = inv.spread;
     }
@@ -38,8 +40,11 @@ loop-own-preserved c =
       next = told.next ∙ inv.next;
       marks = told.marks ∙ inv.marks;
       spread = told.spread;
-      wider = wider_more first.found before.found after.found first.queue.items before.queue.items after.queue.items inv.wider told.wider;
-      passed = pass_more Seen inv.passed (λ f saw some. told.wider.kept (label_at whos f) (saw some)) (rw c.in_default.is at told.end);
+      wider = wider_more first.found before.found after.found first.queue.items before.queue.items
+          after.queue.items inv.wider told.wider;
+      passed = pass_more Seen inv.passed
+          (λ f saw some. told.wider.kept (label_at whos f) (saw some))
+          (rw c.in_default.is at told.end);
     }
 
 pub returns-in-Some : goal.returns-in-Some
@@ -53,7 +58,8 @@ returns-in-Some c =
       from = o.from ∙ inv.from;
       next = o.next ∙ inv.next;
       spread = o.spread;
-      wider = wider_more first.found before.found after.found first.queue.items before.queue.items after.queue.items inv.wider o.wider;
+      wider = wider_more first.found before.found after.found first.queue.items before.queue.items
+          after.queue.items inv.wider o.wider;
       end = rw inv.from at (rw c.in-Some.is at o.end);
     }
 
@@ -65,9 +71,14 @@ returns-clause-spread c =
     let inv = c.loop-own.invariant in
     let le = c.requires.cell in
     let same = c.requires.told.cells.same in
-    let slot = get_or_read slots c.args.e s (omega (arith, le, same)) (rw c.all-cells.ensures at c.index-s.ensures) 0 in
-    let all = pass_done c.args.shares.now.cells.slots_grouped (rw c.all-cells.ensures at c.list-own-items.ensures) c.loop-own-test.false inv.passed in
-    rw c.insert.ensures (spread_marked (length c.args.answers.now) c.args.shares.now.cells.whos.items slots c.args.shares.now.y.items c.args.rooms.now self.from self.found self.marks self.queue.items self.next inv.spread s (rw slot c.requires.full) (λ f lf is some. all f (omega (arith, lf, same)) is some))
+    let slot = get_or_read slots c.args.e s (omega (arith, le, same))
+    (rw c.all-cells.ensures at c.index-s.ensures) 0 in
+    let all = pass_done c.args.shares.now.cells.slots_grouped
+    (rw c.all-cells.ensures at c.list-own-items.ensures) c.loop-own-test.false inv.passed in
+    rw c.insert.ensures (spread_marked (length c.args.answers.now)
+    c.args.shares.now.cells.whos.items slots c.args.shares.now.y.items c.args.rooms.now
+    self.from self.found self.marks self.queue.items self.next inv.spread s
+    (rw slot c.requires.full) (λ f lf is some. all f (omega (arith, lf, same)) is some))
 
 pub loop-own-init : goal.loop-own-init
 loop-own-init c =
@@ -79,7 +90,9 @@ loop-own-init c =
       marks = refl;
       spread = c.requires.spread;
       wider = wider_none self.found self.queue.items;
-      passed = pass_begun c.list-own-items.result.now (λ f. pos 1 ≤ℤ amount_at c.args.shares.now.y.items f → Has self.found (label_at cells.whos.items f));
+      passed = pass_begun c.list-own-items.result.now
+          (λ f. pos 1 ≤ℤ amount_at c.args.shares.now.y.items f
+          → Has self.found (label_at cells.whos.items f));
     }
 
 pub returns-clause-from : goal.returns-clause-from

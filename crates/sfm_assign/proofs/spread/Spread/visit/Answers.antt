@@ -10,8 +10,11 @@ use Rattle.sfm_assign.proofs.spread.Spread.visit.Goals.{After-index-s}
 use Rattle.sfm_assign.proofs.spread.Spread.visit.Goals as goal
 
 -- the slot of the cell
-slot : (c : After-index-s) → c.index-s.result.now ≡ label_at c.args.shares.now.cells.slots.items c.args.e
-slot c = let lt = c.requires.cell in let same = c.requires.told.cells.same in get_or_read c.args.shares.now.cells.slots.items c.args.e c.index-s.result.now (omega (arith, lt, same)) (rw c.all.ensures at c.index-s.ensures) 0
+slot : (c : After-index-s) → c.index-s.result.now ≡ label_at c.args.shares.now.cells.slots.items
+    c.args.e
+slot c = let lt = c.requires.cell in let same = c.requires.told.cells.same in get_or_read
+    c.args.shares.now.cells.slots.items c.args.e c.index-s.result.now (omega (arith, lt, same))
+    (rw c.all.ensures at c.index-s.ensures) 0
 
 pub index-s-requires : goal.index-s-requires
 index-s-requires c =
@@ -29,8 +32,11 @@ offset_bounds-rooms-s c =
 
 pub returns-then-contains-clause-end : goal.returns-then-contains-clause-end
 returns-then-contains-clause-end c =
-    let is = slot (goal.at.returns-then-contains-clause-end c).After-index-s in
-    (ap (λ k. get_or c.args.self.now.marks k false) (sym is) ∙ (sym c.contains.ensures ∙ c.if-contains.true), λ k has. has)
+    let is = slot (goal.at.returns-then-contains-clause-end c).After-index-s in (
+      ap (λ k. get_or c.args.self.now.marks k false) (sym is)
+          ∙ (sym c.contains.ensures ∙ c.if-contains.true),
+      λ k has. has,
+    )
 
 pub returns-then-rooms-s-gt0-clause-end : goal.returns-then-rooms-s-gt0-clause-end
 returns-then-rooms-s-gt0-clause-end c =
@@ -40,10 +46,13 @@ returns-then-rooms-s-gt0-clause-end c =
     let rooms = c.args.rooms.now in
     let e = c.args.e in
     let f : FitsSigned w128 (get_or rooms c.index-s.result.now (pos 0)) = search rules in
-    let q = ap (λ j. amount_at rooms j) (slot (goal.at.returns-then-rooms-s-gt0-clause-end c).After-index-s) in
+    let q = ap (λ j. amount_at rooms j)
+    (slot (goal.at.returns-then-rooms-s-gt0-clause-end c).After-index-s) in
     let t = c.if-rooms-s-gt0.true in
     let room : pos 1 ≤ℤ amount_at rooms (label_at slots e) = omega (arith, ints, q, t) in
-    led_to_room whos slots y rooms c.args.self.now.from (label_at whos e) (c.requires.spread.led (label_at whos e) c.requires.found) (room_here whos slots y rooms e c.requires.cell room)
+    led_to_room whos slots y rooms c.args.self.now.from (label_at whos e)
+    (c.requires.spread.led (label_at whos e) c.requires.found)
+    (room_here whos slots y rooms e c.requires.cell room)
 
 pub sweep-requires : goal.sweep-requires
 sweep-requires c =
@@ -52,7 +61,13 @@ sweep-requires c =
     let q = ap (λ j. amount_at rooms j) (slot (goal.at.sweep-requires c).After-index-s) in
     let t = c.if-rooms-s-gt0.false in
     let r = c.requires in
-    record { told = r.told; cell = r.cell; full = omega (arith, ints, q, t); found = r.found; spread = r.spread }
+    record {
+      told = r.told;
+      cell = r.cell;
+      full = omega (arith, ints, q, t);
+      found = r.found;
+      spread = r.spread;
+    }
 
 pub returns : goal.returns
 returns c =
@@ -63,4 +78,13 @@ returns c =
     let in_marks : k < length marks = omega (arith, exist, places) in
     let o = c.in_ok-answer.ensures in
     let told = rw c.in_default.is at o.end in
-    record { from = o.from; next = o.next; spread = o.spread; wider = o.wider; end = rw told (marked_here marks k in_marks, λ (t : ℕ) has. marked_kept marks k t in_marks has) }
+    record {
+      from = o.from;
+      next = o.next;
+      spread = o.spread;
+      wider = o.wider;
+      end = rw told (
+        marked_here marks k in_marks,
+        λ (t : ℕ) has. marked_kept marks k t in_marks has,
+      );
+    }

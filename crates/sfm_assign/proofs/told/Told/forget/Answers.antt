@@ -8,7 +8,9 @@ use Rattle.sfm_assign.proofs.told.Told.forget.Goals.{At-loop-k, After-index-u}
 use Rattle.sfm_assign.proofs.told.Told.forget.Goals as goal
 
 -- the next demand of the list
-next_is : (c : After-index-u) → (c.index-u.result.now ≡ label_at c.self.inside.known.items c.loop-k.k) × (label_at c.self.inside.known.items c.loop-k.k < length c.self.inside.answers.items)
+next_is : (c : After-index-u) → (c.index-u.result.now ≡ label_at c.self.inside.known.items
+    c.loop-k.k) × (label_at c.self.inside.known.items c.loop-k.k < length
+    c.self.inside.answers.items)
 next_is c =
     let before = c.self.inside in
     let known = c.loop-k.self-inside.known in
@@ -17,12 +19,18 @@ next_is c =
     let long = ap length kept in
     let now = known.ok.0 in
     let then = before.known.ok.0 in
-    let lt : k < length known.items = omega (arith, long, now, then) in
-    (get_or_read known.items k c.index-u.result.now lt c.index-u.ensures 0 ∙ ap (λ xs. label_at xs k) kept, c.self.invariant.below k (omega (arith, lt, long)))
+    let lt : k < length known.items = omega (arith, long, now, then) in (
+      get_or_read known.items k c.index-u.result.now lt c.index-u.ensures 0
+          ∙ ap (λ xs. label_at xs k) kept,
+      c.self.invariant.below k (omega (arith, lt, long)),
+    )
 
 -- in the end nothing is told
-none : (c : At-loop-k) → length c.self.inside.known.items ≤ c.loop-k.k → (u : ℕ) → answer_at c.loop-k.self-inside.answers.items u ≡ None
-none c past = cleared_all c.self.inside.answers.items c.self.inside.known.items c.loop-k.self-inside.answers.items c.loop-k.k past (λ u a is. c.self.invariant.all u (a, is)) c.loop-k.invariant.cleared
+none : (c : At-loop-k) → length c.self.inside.known.items ≤ c.loop-k.k → (u : ℕ)
+    → answer_at c.loop-k.self-inside.answers.items u ≡ None
+none c past = cleared_all c.self.inside.answers.items c.self.inside.known.items
+    c.loop-k.self-inside.answers.items c.loop-k.k past (λ u a is. c.self.invariant.all u (a, is))
+    c.loop-k.invariant.cleared
 
 pub index_mut-requires : goal.index_mut-requires
 index_mut-requires c =
@@ -38,7 +46,9 @@ loop-k-preserved c =
     let inv = c.loop-k.invariant in
     record {
       known = inv.known;
-      cleared = rw (c.forget_one.ensures, is) (cleared_more before.answers.items before.known.items c.loop-k.self-inside.answers.items c.loop-k.k below inv.cleared);
+      cleared = rw (c.forget_one.ensures, is)
+          (cleared_more before.answers.items before.known.items c.loop-k.self-inside.answers.items
+          c.loop-k.k below inv.cleared);
     }
 
 pub returns-clause-none : goal.returns-clause-none
@@ -49,4 +59,5 @@ returns-clause-none c =
 pub invariant_of-self : goal.invariant_of-self
 invariant_of-self c =
     let ok = c.self.inside.known.ok.0 in
-    rw c.clear.ensures.items (listed_nothing c.loop-k.self-inside.answers.items (none (goal.at.invariant_of-self c).At-loop-k (omega (arith, ok))))
+    rw c.clear.ensures.items (listed_nothing c.loop-k.self-inside.answers.items
+    (none (goal.at.invariant_of-self c).At-loop-k (omega (arith, ok))))

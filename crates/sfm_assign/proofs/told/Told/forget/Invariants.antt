@@ -6,5 +6,6 @@ use Rattle.sfm_assign.proofs.told.Told.forget.Given as goal
 abbrev pub invariant-loop-k : goal.invariant-loop-k
 invariant-loop-k l = record {
   known : l.self-inside.known.items ≡ l.initial.self-inside.known.items;
-  cleared : IsClearedTo l.initial.self-inside.answers.items l.initial.self-inside.known.items l.self-inside.answers.items l.k;
+  cleared : IsClearedTo l.initial.self-inside.answers.items l.initial.self-inside.known.items
+      l.self-inside.answers.items l.k;
 }

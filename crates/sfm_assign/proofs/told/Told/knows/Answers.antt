@@ -11,5 +11,9 @@ returns c t =
     let view = c.self.view_is in
     let long = ap length view in
     let place = c.requires in
-    let (a, is) = some_of c.index.result.now (sym c.is_some.ensures ∙ t) in
-    (a, sym (ap (λ xs. answer_at xs u) view) ∙ (sym (get_or_read answers u c.index.result.now (omega (arith, long, place)) c.index.ensures None) ∙ is))
+    let (a, is) = some_of c.index.result.now (sym c.is_some.ensures ∙ t) in (
+      a,
+      sym (ap (λ xs. answer_at xs u) view)
+          ∙ (sym (get_or_read answers u c.index.result.now (omega (arith, long, place))
+          c.index.ensures None) ∙ is),
+    )

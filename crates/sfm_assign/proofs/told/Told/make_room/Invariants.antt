@@ -7,6 +7,7 @@ abbrev pub invariant-loop : goal.invariant-loop
 invariant-loop l = record {
   places : vec_len l.self-inside.answers ≡ l.counter;
   within : vec_len l.self-inside.answers ≤ l.n;
-  same : (u : ℕ) → answer_at l.self-inside.answers.items u ≡ answer_at l.initial.self-inside.answers.items u;
+  same : (u : ℕ) → answer_at l.self-inside.answers.items u ≡ answer_at
+      l.initial.self-inside.answers.items u;
   listed : AreListed l.self-inside.answers.items l.self-inside.known.items;
 }

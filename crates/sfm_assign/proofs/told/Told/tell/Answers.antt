@@ -7,4 +7,6 @@ invariant_of-self-2 c =
     let told = c.self.inside in
     let long = ap length c.self.view_is in
     let place = c.requires in
-    rw c.in_ok-push.ensures.items (listed_told told.answers.items told.known.items c.args.u c.args.answer (omega (arith, long, place)) c.self.invariant)
+    rw c.in_ok-push.ensures.items
+    (listed_told told.answers.items told.known.items c.args.u c.args.answer
+    (omega (arith, long, place)) c.self.invariant)

@@ -3,4 +3,10 @@ use Rattle.sfm_base.proofs.Rowing.{length-rows}
 use Rattle.sfm_base.proofs.lists.Lists.len.Goals as goal
 
 pub returns : goal.returns
-returns c = omega (arith, c.len.ensures, c.self.inside.ends.ok.0, length-rows 0 c.self.inside.ends.items c.self.inside.items.items, ap length c.self.view_is)
+returns c = omega (
+  arith,
+  c.len.ensures,
+  c.self.inside.ends.ok.0,
+  length-rows 0 c.self.inside.ends.items c.self.inside.items.items,
+  ap length c.self.view_is,
+)

@@ -3,4 +3,11 @@ use Rattle.sfm_base.proofs.Rowing.{length-rows}
 use Rattle.sfm_base.proofs.rows.Rows.is_empty.Goals as goal
 
 pub returns : goal.returns
-returns c = c.is_empty.ensures ∙ ap (λ k. k == 0) (omega (arith, c.self.inside.ends.ok.0, length-rows 0 c.self.inside.ends.items c.self.inside.numbers.items, ap length c.self.view_is))
+returns c = c.is_empty.ensures
+    ∙ ap (λ k. k == 0)
+    (omega (
+      arith,
+      c.self.inside.ends.ok.0,
+      length-rows 0 c.self.inside.ends.items c.self.inside.numbers.items,
+      ap length c.self.view_is,
+    ))

@@ -9,5 +9,6 @@ use Rattle.sfm_base.proofs.set.Set.clear.Goals as goal
 pub returns : goal.returns
 returns c =
     let n = c.self.inside.n in
-    ap (λ words. members n words) (c.fill.ensures.items (λ y e. e)) ∙ (blank_set n (vec_len c.self.inside.words)
+    ap (λ words. members n words) (c.fill.ensures.items (λ y e. e))
+    ∙ (blank_set n (vec_len c.self.inside.words)
     ∙ ap empty_set (sym (length-members n c.self.inside.words.items) ∙ ap length c.self.view_is))

@@ -7,7 +7,9 @@ use Rattle.sfm_base.proofs.set.Set.is_within.Goals as goal
 
 pub are_within-requires : goal.are_within-requires
 are_within-requires c =
-    ap length c.deref.ensures.value ∙ (same_count _ _ _ _ _ _ c.self.invariant c.other.invariant c.self.view_is c.other.view_is c.requires ∙ sym (ap length c.deref-2.ensures.value))
+    ap length c.deref.ensures.value
+    ∙ (same_count _ _ _ _ _ _ c.self.invariant c.other.invariant c.self.view_is c.other.view_is
+    c.requires ∙ sym (ap length c.deref-2.ensures.value))
 
 pub returns : goal.returns
 returns c =
@@ -16,9 +18,14 @@ returns c =
     let b = c.other.inside.words.items in
     let same = same_places _ _ a b _ _ c.self.view_is c.other.view_is c.requires in
     let first : members n a ≡ c.args.self.now = c.self.view_is in
-    let second : members n b ≡ c.args.other.now = ap (λ m. members m b) (sym same) ∙ c.other.view_is in
+    let second : members n b ≡ c.args.other.now = ap (λ m. members m b) (sym same)
+    ∙ c.other.view_is in
     let kept : AreWords n b = subst (λ m. AreWords m b) same c.other.invariant in
     let told = rw (c.deref.ensures.value, c.deref-2.ensures.value) at c.are_within.ensures in (
-      λ t. subst (λ (s : List Bool). IsWithin s c.args.other.now) first (subst (λ (s : List Bool). IsWithin (members n a) s) second (set_within n a b c.self.invariant kept (told.0 t))),
-      λ h. told.1 (words_within n a b c.self.invariant kept (subst (λ (s : List Bool). IsWithin (members n a) s) (sym second) (subst (λ (s : List Bool). IsWithin s c.args.other.now) (sym first) h))),
+      λ t. subst (λ (s : List Bool). IsWithin s c.args.other.now) first
+          (subst (λ (s : List Bool). IsWithin (members n a) s) second
+          (set_within n a b c.self.invariant kept (told.0 t))),
+      λ h. told.1 (words_within n a b c.self.invariant kept
+          (subst (λ (s : List Bool). IsWithin (members n a) s) (sym second)
+          (subst (λ (s : List Bool). IsWithin s c.args.other.now) (sym first) h))),
     )

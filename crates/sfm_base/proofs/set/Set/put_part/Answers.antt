@@ -18,8 +18,12 @@ loop-j-preserved c =
     let inside : j < length before = omega (arith, places, c.loop-j-test.true) in (
       ap length c.put.ensures ∙ (length-set before j b ∙ places),
       λ k l. ap (λ s. get_or s k false) c.put.ensures ∙ ⊎_elim
-          (λ same. ap (λ i. get_or (set before j b) i false) same ∙ (get_or-set_same before j b false inside ∙ (c.contains.ensures ∙ ap (λ i. get_or c.args.whole.now (get_or c.args.places.now i 0) false) (sym same))))
-          (λ other. get_or-set_other before j k b false other ∙ c.loop-j.invariant.1 k (omega (arith, l, other)))
+          (λ same. ap (λ i. get_or (set before j b) i false) same
+          ∙ (get_or-set_same before j b false inside
+          ∙ (c.contains.ensures ∙ ap (λ i. get_or c.args.whole.now
+          (get_or c.args.places.now i 0) false) (sym same))))
+          (λ other. get_or-set_other before j k b false other
+          ∙ c.loop-j.invariant.1 k (omega (arith, l, other)))
           (cases_eq k j),
     )
 
@@ -28,4 +32,5 @@ returns c =
     let places = c.loop-j.invariant.0 in
     let f : ℕ → Bool = λ e. get_or c.args.whole.now e false in
     ext_get_or false _ _ (places ∙ sym (length-map c.args.places.now f))
-    (λ k l. c.loop-j.invariant.1 k (omega (arith, l, places, c.loop-j-test.false)) ∙ sym (get_or-map f c.args.places.now k 0 false (omega (arith, l, places))))
+    (λ k l. c.loop-j.invariant.1 k (omega (arith, l, places, c.loop-j-test.false))
+    ∙ sym (get_or-map f c.args.places.now k 0 false (omega (arith, l, places))))

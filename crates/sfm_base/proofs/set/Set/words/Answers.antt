@@ -11,7 +11,12 @@ pub returns-clause-set : goal.returns-clause-set
 returns-clause-set c =
     let n = c.self.inside.n in
     let words = c.self.inside.words.items in
-    rw (counted n words c.args.self.now c.self.view_is, c.as_slice.ensures.value) (sym c.self.view_is)
+    rw (counted n words c.args.self.now c.self.view_is, c.as_slice.ensures.value)
+    (sym c.self.view_is)
 
 pub returns-clause-words : goal.returns-clause-words
-returns-clause-words c = rw (counted c.self.inside.n c.self.inside.words.items c.args.self.now c.self.view_is, c.as_slice.ensures.value) c.self.invariant
+returns-clause-words c = rw (
+  counted c.self.inside.n c.self.inside.words.items c.args.self.now
+      c.self.view_is,
+  c.as_slice.ensures.value,
+) c.self.invariant

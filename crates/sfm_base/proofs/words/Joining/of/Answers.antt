@@ -13,4 +13,10 @@ pub returns-in-Difference : goal.returns-in-Difference
 returns-in-Difference c = λ t.
     let x = c.args.word in
     let y = c.args.other in
-    rw c.in-Difference.is (omega (arith, bit_at_and x y t, bit_at_xor x (bit_and x y) t, bit_at-lt x t, bit_at-lt y t))
+    rw c.in-Difference.is (omega (
+      arith,
+      bit_at_and x y t,
+      bit_at_xor x (bit_and x y) t,
+      bit_at-lt x t,
+      bit_at-lt y t,
+    ))

@@ -11,7 +11,8 @@ whole c =
     let i = c.loop-i.i in
     let whos = c.loop-i.whos.items in
     let past : length lists ≤ i = rw c.len-i-end.ensures at c.loop-i-test.false in
-    sym (append-nil whos) ∙ (ap (λ ls. whos ++ owners i ls) (sym (drop_all i lists past)) ∙ c.loop-i.invariant.whos)
+    sym (append-nil whos) ∙ (ap (λ ls. whos ++ owners i ls) (sym (drop_all i lists past))
+    ∙ c.loop-i.invariant.whos)
 
 all : (c : After-loop-i) → c.loop-i.slots.items ≡ joined c.args.lists.now
 all c =
@@ -19,7 +20,8 @@ all c =
     let i = c.loop-i.i in
     let slots = c.loop-i.slots.items in
     let past : length lists ≤ i = rw c.len-i-end.ensures at c.loop-i-test.false in
-    sym (append-nil slots) ∙ (ap (λ ls. slots ++ joined ls) (sym (drop_all i lists past)) ∙ c.loop-i.invariant.slots)
+    sym (append-nil slots) ∙ (ap (λ ls. slots ++ joined ls) (sym (drop_all i lists past))
+    ∙ c.loop-i.invariant.slots)
 
 pub loop-i-preserved : goal.loop-i-preserved
 loop-i-preserved c =
@@ -33,18 +35,34 @@ loop-i-preserved c =
     let whos = c.loop-i.whos.items in
     let slots = c.loop-i.slots.items in
     record {
-      whos = rw (c.in_ok-add.ensures.whos, is) (append_assoc whos (replicate (length list) i) (owners (i + 1) (drop (i + 1) lists)) ∙ (ap (λ k. whos ++ (replicate (length list) i ++ owners k (drop (i + 1) lists))) one ∙ (ap (λ r. whos ++ r) (sym (at_drop_more (owners i) lists i [] lt)) ∙ inv.whos)));
-      slots = rw (c.in_ok-add.ensures.slots, is) (append_assoc slots list (joined (drop (i + 1) lists)) ∙ (ap (λ r. slots ++ r) (sym (at_drop_more joined lists i [] lt)) ∙ inv.slots));
+      whos = rw (c.in_ok-add.ensures.whos, is)
+          (append_assoc whos (replicate (length list) i) (owners (i + 1) (drop (i + 1) lists))
+          ∙ (ap (λ k. whos ++ (replicate (length list) i ++ owners k (drop (i + 1) lists))) one
+          ∙ (ap (λ r. whos ++ r) (sym (at_drop_more (owners i) lists i [] lt)) ∙ inv.whos)));
+      slots = rw (c.in_ok-add.ensures.slots, is)
+          (append_assoc slots list (joined (drop (i + 1) lists))
+          ∙ (ap (λ r. slots ++ r) (sym (at_drop_more joined lists i [] lt)) ∙ inv.slots));
     }
 
 pub of-requires : goal.of-requires
-of-requires c = record { below = rw (c.deref.ensures.value, c.len.ensures, whole (goal.at.of-requires c).After-loop-i) (cells_of c.args.m c.args.lists.now c.requires.exist).owned }
+of-requires c =
+    record {
+      below = rw (
+        c.deref.ensures.value,
+        c.len.ensures,
+        whole (goal.at.of-requires c).After-loop-i,
+      )
+          (cells_of c.args.m c.args.lists.now c.requires.exist).owned;
+    }
 
 pub of-requires-2 : goal.of-requires-2
 of-requires-2 c =
     let cells = cells_of c.args.m c.args.lists.now c.requires.exist in
     let same = cells.same in
-    record { below = rw (c.deref-2.ensures.value, all (goal.at.of-requires-2 c).After-loop-i) (λ e lt. cells.exist e (omega (arith, lt, same))) }
+    record {
+      below = rw (c.deref-2.ensures.value, all (goal.at.of-requires-2 c).After-loop-i)
+          (λ e lt. cells.exist e (omega (arith, lt, same)));
+    }
 
 pub invariant_of-result-clause-whos_grouped : goal.invariant_of-result-clause-whos_grouped
 invariant_of-result-clause-whos_grouped c = rw c.deref.ensures.value at c.in_ok-by_who.ensures

@@ -3,8 +3,16 @@ use Rattle.sfm_cells.proofs.demand.Demand.copy.Goals as goal
 
 pub invariant_of-result : goal.invariant_of-result
 invariant_of-result c =
-    rw (c.in_ok-from_slice.ensures.items ∙ c.deref.ensures.value, c.in_ok-copy.ensures, c.in_ok-from_slice-2.ensures.items ∙ c.deref-2.ensures.value) c.self.invariant
+    rw (
+      c.in_ok-from_slice.ensures.items ∙ c.deref.ensures.value,
+      c.in_ok-copy.ensures,
+      c.in_ok-from_slice-2.ensures.items ∙ c.deref-2.ensures.value,
+    ) c.self.invariant
 
 pub returns : goal.returns
 returns c =
-    rw (c.in_ok-from_slice.ensures.items ∙ c.deref.ensures.value, c.in_ok-copy.ensures, c.in_ok-from_slice-2.ensures.items ∙ c.deref-2.ensures.value) c.self.view_is
+    rw (
+      c.in_ok-from_slice.ensures.items ∙ c.deref.ensures.value,
+      c.in_ok-copy.ensures,
+      c.in_ok-from_slice-2.ensures.items ∙ c.deref-2.ensures.value,
+    ) c.self.view_is

@@ -8,8 +8,13 @@ use Rattle.sfm_cells.specs.Splits.{AreDemands, Demands, IsAmount}
 use Rattle.sfm_cells.proofs.demand.Demand.push.Goals as goal
 
 -- with a demand at the end
-pushed : (d : Demands) (a : ℤ) (list : List ℕ) → length d.demands < 256 → IsAmount a → All (λ s. s < length d.capacities) list → AreDemands d
-    → AreDemands (record { demands = d.demands ++ a ∷ []; lists = d.lists ++ list ∷ []; capacities = d.capacities })
+pushed : (d : Demands) (a : ℤ) (list : List ℕ) → length d.demands < 256 → IsAmount a
+    → All (λ s. s < length d.capacities) list → AreDemands d
+    → AreDemands (record {
+      demands = d.demands ++ a ∷ [];
+      lists = d.lists ++ list ∷ [];
+      capacities = d.capacities;
+    })
 pushed d a list few amount exist h =
     let l = length_push d.demands a in
     let m = length_push d.lists list in
@@ -27,16 +32,28 @@ pub invariant_of-self-then-put_list : goal.invariant_of-self-then-put_list
 invariant_of-self-then-put_list c =
     let r = c.requires in
     let fd : FitsSigned w128 c.args.d = c.ranges.d in
-    let d : Demands = record { demands = c.self.inside.demands.items; lists = c.self.inside.lists; capacities = c.self.inside.capacities.items } in
+    let d : Demands = record {
+      demands = c.self.inside.demands.items;
+      lists = c.self.inside.lists;
+      capacities = c.self.inside.capacities.items;
+    } in
     let long = ap (λ (t : Demands). length t.demands) c.self.view_is in
     let wide = ap (λ (t : Demands). length t.capacities) c.self.view_is in
     let few = r.few in
-    rw (c.in_ok-push.ensures.items, rw c.if-put_list.true at c.put_list.ensures) (simp to_z-of_z (pushed d c.args.d c.args.slots.now (omega (arith, long, few)) r.amount (rw wide r.exist) c.self.invariant))
+    rw (c.in_ok-push.ensures.items, rw c.if-put_list.true at c.put_list.ensures)
+    (simp to_z-of_z (pushed d c.args.d c.args.slots.now (omega (arith, long, few)) r.amount
+    (rw wide r.exist) c.self.invariant))
 
 pub returns-then-put_list : goal.returns-then-put_list
 returns-then-put_list c =
     let fd : FitsSigned w128 c.args.d = c.ranges.d in
-    rw (c.in_ok-push.ensures.items, rw c.if-put_list.true at c.put_list.ensures) (simp to_z-of_z (ap (λ (t : Demands). record { demands = t.demands ++ c.args.d ∷ []; lists = t.lists ++ c.args.slots.now ∷ []; capacities = t.capacities }) c.self.view_is))
+    rw (c.in_ok-push.ensures.items, rw c.if-put_list.true at c.put_list.ensures)
+    (simp to_z-of_z
+    (ap (λ (t : Demands). record {
+      demands = t.demands ++ c.args.d ∷ [];
+      lists = t.lists ++ c.args.slots.now ∷ [];
+      capacities = t.capacities;
+    }) c.self.view_is))
 
 pub invariant_of-self : goal.invariant_of-self
 invariant_of-self c = rw c.in_err-push.ensures.items c.self.invariant

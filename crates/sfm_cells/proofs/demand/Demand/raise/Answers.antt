@@ -22,7 +22,10 @@ invariant_of-self c =
     let v = get_or_read demands u x lt c.index_mut.ensures.value (pos 0) in
     let low = c.requires.amount.low in
     let high = c.requires.amount.high in
-    let amount : IsAmount (x +ℤ a) = record { low = omega (arith, ints, v, same, low); high = omega (arith, ints, v, same, high) } in
+    let amount : IsAmount (x +ℤ a) = record {
+      low = omega (arith, ints, v, same, low);
+      high = omega (arith, ints, v, same, high);
+    } in
     let fs : FitsSigned w128 (x +ℤ a) = omega (arith, ints, v, same, low, high) in
     let l = length-set demands u (x +ℤ a) in
     let few = inv.few in

@@ -5,4 +5,5 @@ use Rattle.sfm_cells.specs.Cells.{label_at}
 use Rattle.sfm_cells.proofs.left.Lefts.first_lacking.Given as goal
 
 abbrev pub invariant-loop-k : goal.invariant-loop-k
-invariant-loop-k l = (j : ℕ) → j < l.k → amount_at l.self.lacks.items (label_at l.self.lacking.items j) ≤ℤ pos 0
+invariant-loop-k l = (j : ℕ) → j < l.k
+    → amount_at l.self.lacks.items (label_at l.self.lacking.items j) ≤ℤ pos 0

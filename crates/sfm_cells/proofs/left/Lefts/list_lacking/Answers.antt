@@ -17,11 +17,21 @@ loop-i-preserved c =
     let long = ap length inv.lacks in
     let ok = at.lacks.ok.0 in
     let first = c.args.self.now.lacks.ok.0 in
-    let is = get_or_read at.lacks.items i x (omega (arith, long, ok, first)) c.index.ensures (pos 0) in
+    let is = get_or_read at.lacks.items i x (omega (arith, long, ok, first)) c.index.ensures
+    (pos 0) in
     elim c.if-index-gt0.branch [
-      | then-index-gt0+in_ok-push w ↦ rw (w.self-is, w.in_ok-push.ensures.items) (record { lacks = inv.lacks; rooms = inv.rooms; listed = listed_more i at.lacks.items at.lacking.items inv.listed })
+      | then-index-gt0+in_ok-push w ↦ rw (w.self-is, w.in_ok-push.ensures.items)
+          (record {
+            lacks = inv.lacks;
+            rooms = inv.rooms;
+            listed = listed_more i at.lacks.items at.lacking.items inv.listed;
+          })
       | else-index-gt0 w ↦ (
           let t = w.if-index-gt0.false in
           let none : amount_at at.lacks.items i ≤ℤ pos 0 = omega (arith, ints, t, is) in
-          rw w.self-is (record { lacks = inv.lacks; rooms = inv.rooms; listed = listed_skip i at.lacks.items at.lacking.items none inv.listed }))
+          rw w.self-is (record {
+            lacks = inv.lacks;
+            rooms = inv.rooms;
+            listed = listed_skip i at.lacks.items at.lacking.items none inv.listed;
+          }))
     ]

@@ -12,5 +12,6 @@ pub returns-clause-amounts : goal.returns-clause-amounts
 returns-clause-amounts c =
     let fm : FitsSigned w128 c.args.m = c.ranges.m in
     let m = c.args.m in
-    let made : c.in_ok-list_times.field-0.items ≡ map (λ a. m *ℤ a) c.deref.result.now = simp to_z-of_z at c.in_ok-list_times.ensures in
+    let made : c.in_ok-list_times.field-0.items ≡ map (λ a. m *ℤ a)
+    c.deref.result.now = simp to_z-of_z at c.in_ok-list_times.ensures in
     made ∙ ap (map (λ a. m *ℤ a)) c.deref.ensures.value

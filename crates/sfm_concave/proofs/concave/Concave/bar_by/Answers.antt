@@ -21,10 +21,13 @@ count_upto-own-requires-clause-small c =
 
 -- the entry of u is a number of 128 bits
 entry : (c : After-count_upto-own) → FitsSigned w128 (get_or c.args.at.now.x.now c.args.u (pos 0))
-entry c = entry_fits _ (All-get_or IsEntry c.args.at.now.x.now c.args.u (pos 0) c.requires.from c.requires.small)
+entry c = entry_fits _ (All-get_or IsEntry c.args.at.now.x.now c.args.u (pos 0) c.requires.from
+    c.requires.small)
 
 -- what the search found
-own : (c : After-count_upto-own) → IsOwnCut c.args.at.now.q c.args.self.now.values c.args.at.now.x.now c.args.ranking.sorted.now c.args.ranking.sums.now c.args.u c.count_upto-own.result
+own : (c : After-count_upto-own)
+    → IsOwnCut c.args.at.now.q c.args.self.now.values c.args.at.now.x.now c.args.ranking.sorted.now
+    c.args.ranking.sums.now c.args.u c.count_upto-own.result
 own c =
     let r = c.requires in
     let s = c.args.self.now in
@@ -47,7 +50,10 @@ returns-then-is_tight c =
 
 pub returns-in_err-i : goal.returns-in_err-i
 returns-in_err-i c =
-    rw c.from_residual.ensures (concave_none_bar (own (goal.at.returns-in_err-i c).After-count_upto-own) (λ t. both_ways c.is_tight.result c.if-is_tight.false (c.is_tight.ensures.1 t)) c.in_err-i.ensures)
+    rw c.from_residual.ensures (concave_none_bar
+    (own (goal.at.returns-in_err-i c).After-count_upto-own)
+    (λ t. both_ways c.is_tight.result c.if-is_tight.false (c.is_tight.ensures.1 t))
+    c.in_err-i.ensures)
 
 pub returns : goal.returns
 returns c =
@@ -55,10 +61,13 @@ returns c =
     let y = c.args.ranking.sorted.now in
     let cut = own (goal.at.returns c).After-count_upto-own in
     let few : length c.args.at.now.x.now ≤ 256 = omega (arith, c.args.self.now.few, r.entries) in
-    let small : All IsEntry y = ranked_small c.args.at.now.x.now y c.args.ranking.sums.now r.ranked few r.small in
+    let small : All IsEntry y = ranked_small c.args.at.now.x.now y c.args.ranking.sums.now r.ranked
+    few r.small in
     let i = c.in_ok-i.i in
     let is = c.in_ok-i.ensures in
     let in_range = cut.cut.in_range in
     let before = is.below in
-    let fd : FitsSigned w128 (get_or y (i - 1) (pos 0)) = entry_fits _ (All-get_or IsEntry y (i - 1) (pos 0) (omega (arith, in_range, before)) small) in
-    simp to_z-of_z (concave_tight_bar cut (λ t. both_ways c.is_tight.result c.if-is_tight.false (c.is_tight.ensures.1 t)) i is)
+    let fd : FitsSigned w128 (get_or y (i - 1) (pos 0)) = entry_fits _
+    (All-get_or IsEntry y (i - 1) (pos 0) (omega (arith, in_range, before)) small) in
+    simp to_z-of_z (concave_tight_bar cut
+    (λ t. both_ways c.is_tight.result c.if-is_tight.false (c.is_tight.ensures.1 t)) i is)

@@ -22,8 +22,10 @@ returns c =
     let fq : FitsSigned w128 q = c.ranges.q in
     let fa : FitsSigned w128 c.scaled.result = share_fits _ (at_most_more _ after) in
     let fb : FitsSigned w128 c.scaled-2.result = share_fits _ before in
-    let fd : FitsSigned w128 (c.scaled.result -ℤ c.scaled-2.result) = difference_fits _ _ after before in
+    let fd : FitsSigned w128 (c.scaled.result -ℤ c.scaled-2.result) = difference_fits _ _ after
+    before in
     let va = simp to_z-of_z at c.scaled.ensures.value in
     let vb = simp to_z-of_z at c.scaled-2.ensures.value in
-    let all : (c.scaled.result -ℤ c.scaled-2.result) ≡ gain_of q c.args.self.now.values c.args.j = rw (va, vb) (sym (times-sub q _ _)) in
+    let all : (c.scaled.result -ℤ c.scaled-2.result) ≡ gain_of q c.args.self.now.values
+    c.args.j = rw (va, vb) (sym (times-sub q _ _)) in
     simp to_z-of_z all

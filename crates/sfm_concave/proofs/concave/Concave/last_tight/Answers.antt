@@ -12,6 +12,7 @@ loop-i-preserved c =
     let inv = c.loop-i.invariant in
     let tight = c.is_tight.ensures in
     λ j le lt t. ⊎_elim
-    (λ (same : j ≡ i - 1). both_ways c.is_tight.result c.if-is_tight.false (tight.1 (ap (λ z. slack_from h y z) (sym same) ∙ t)))
+    (λ (same : j ≡ i - 1). both_ways c.is_tight.result c.if-is_tight.false
+    (tight.1 (ap (λ z. slack_from h y z) (sym same) ∙ t)))
     (λ ne. inv j (omega (arith, le, ne)) lt t)
     (cases_eq j (i - 1))

@@ -14,7 +14,11 @@ returns-in-Some-clause-rises c = λ at. (
 )
 
 pub returns-in_err-places-clause-rises : goal.returns-in_err-places-clause-rises
-returns-in_err-places-clause-rises c = λ at. ((λ e. absurd (memory_apart _ _ at (memory_told _ _ c.from_residual.ensures.1) e)), (λ x. absurd (c.in_default.ensures at x.rises)))
+returns-in_err-places-clause-rises c =
+    λ at. (
+      (λ e. absurd (memory_apart _ _ at (memory_told _ _ c.from_residual.ensures.1) e)),
+      (λ x. absurd (c.in_default.ensures at x.rises)),
+    )
 
 pub returns-in_err-places-clause-falling : goal.returns-in_err-places-clause-falling
 returns-in_err-places-clause-falling c = IfOk-from_err _ _ c.from_residual.ensures.0
@@ -29,13 +33,15 @@ pub returns-in_err-values-clause-falling : goal.returns-in_err-values-clause-fal
 returns-in_err-values-clause-falling c = IfOk-from_err _ _ c.from_residual-in_err-values.ensures.0
 
 pub returns-clause-rises : goal.returns-clause-rises
-returns-clause-rises c = λ at. ((λ e. absurd (ok_apart _ _ _ at refl e)), (λ x. absurd (c.in_default.ensures at x.rises)))
+returns-clause-rises c = λ at.
+    ((λ e. absurd (ok_apart _ _ _ at refl e)), (λ x. absurd (c.in_default.ensures at x.rises)))
 
 pub returns-clause-falling : goal.returns-clause-falling
 returns-clause-falling c = c.in_default.ensures
 
 pub invariant_of-result-clause-few : goal.invariant_of-result-clause-few
-invariant_of-result-clause-few c = rw c.in_ok-places.ensures (placed_few 256 c.args.elements.now c.requires.elements.placed)
+invariant_of-result-clause-few c =
+    rw c.in_ok-places.ensures (placed_few 256 c.args.elements.now c.requires.elements.placed)
 
 pub invariant_of-result-clause-given : goal.invariant_of-result-clause-given
 invariant_of-result-clause-given c = rw c.in_ok-values.ensures c.requires.given
@@ -44,4 +50,6 @@ pub invariant_of-result-clause-falling : goal.invariant_of-result-clause-falling
 invariant_of-result-clause-falling c = rw c.in_ok-values.ensures c.in_default.ensures
 
 pub invariant_of-result-clause-topped : goal.invariant_of-result-clause-topped
-invariant_of-result-clause-topped c = told_of_kept greatest c.greatest_magnitude-most.result _ _ (record { sfits = c.greatest_magnitude-most.type_inv }) c.greatest_magnitude-most.ensures c.in_ok-values.ensures
+invariant_of-result-clause-topped c = told_of_kept greatest c.greatest_magnitude-most.result _ _
+    (record { sfits = c.greatest_magnitude-most.type_inv }) c.greatest_magnitude-most.ensures
+    c.in_ok-values.ensures

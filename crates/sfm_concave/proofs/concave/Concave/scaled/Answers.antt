@@ -15,10 +15,14 @@ exact c =
 pub returns-clause-value : goal.returns-clause-value
 returns-clause-value c =
     let fq : FitsSigned w128 c.args.q = c.ranges.q in
-    let fp : FitsSigned w128 (c.args.q *ℤ c.number.result) = product_fits _ _ c.requires.factor (given_more _ c.number.ensures.given) in
-    rw (exact (goal.at.returns-clause-value c).After-product) (simp to_z-of_z (ap (λ z. c.args.q *ℤ z) c.number.ensures.value))
+    let fp : FitsSigned w128 (c.args.q *ℤ c.number.result) = product_fits _ _ c.requires.factor
+    (given_more _ c.number.ensures.given) in
+    rw (exact (goal.at.returns-clause-value c).After-product)
+    (simp to_z-of_z (ap (λ z. c.args.q *ℤ z) c.number.ensures.value))
 
 pub returns-clause-small : goal.returns-clause-small
 returns-clause-small c =
-    let fp : FitsSigned w128 (c.args.q *ℤ c.number.result) = product_fits _ _ c.requires.factor (given_more _ c.number.ensures.given) in
-    rw (exact (goal.at.returns-clause-small c).After-product) (simp to_z-of_z (product_small _ _ c.requires.factor (given_more _ c.number.ensures.given)))
+    let fp : FitsSigned w128 (c.args.q *ℤ c.number.result) = product_fits _ _ c.requires.factor
+    (given_more _ c.number.ensures.given) in
+    rw (exact (goal.at.returns-clause-small c).After-product)
+    (simp to_z-of_z (product_small _ _ c.requires.factor (given_more _ c.number.ensures.given)))

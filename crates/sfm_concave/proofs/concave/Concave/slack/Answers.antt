@@ -20,9 +20,12 @@ pub overflow_sub-result : goal.overflow_sub-result
 overflow_sub-result c =
     let (s, share) = c.requires.share in
     let places = c.args.self.now.few in
-    let small : IsAtMost (10 ^ 33) c.args.share.sum = rw share.sums (share_small s c.args._x.now (omega (arith, c.requires.entries, places)) c.requires.small) in
+    let small : IsAtMost (10 ^ 33) c.args.share.sum = rw share.sums
+    (share_small s c.args._x.now (omega (arith, c.requires.entries, places))
+    c.requires.small) in
     let fs : FitsSigned w128 c.args.share.sum = share_fits _ small in
-    let fn : FitsSigned w128 c.scaled.result = share_fits _ (at_most_more _ c.scaled.ensures.small) in
+    let fn : FitsSigned w128 c.scaled.result = share_fits _
+    (at_most_more _ c.scaled.ensures.small) in
     simp to_z-of_z (difference_fits _ _ c.scaled.ensures.small small)
 
 pub returns : goal.returns
@@ -31,11 +34,16 @@ returns c s own =
     let sum = c.args.share.sum in
     let h = scaled q c.args.self.now.values in
     let places = c.args.self.now.few in
-    let small : IsAtMost (10 ^ 33) sum = rw own.sums (share_small s c.args._x.now (omega (arith, c.requires.entries, places)) c.requires.small) in
+    let small : IsAtMost (10 ^ 33) sum = rw own.sums
+    (share_small s c.args._x.now (omega (arith, c.requires.entries, places))
+    c.requires.small) in
     let fq : FitsSigned w128 q = c.ranges.q in
     let fs : FitsSigned w128 sum = share_fits _ small in
-    let fn : FitsSigned w128 c.scaled.result = share_fits _ (at_most_more _ c.scaled.ensures.small) in
-    let fd : FitsSigned w128 (c.scaled.result -ℤ sum) = difference_fits _ _ c.scaled.ensures.small small in
+    let fn : FitsSigned w128 c.scaled.result = share_fits _
+    (at_most_more _ c.scaled.ensures.small) in
+    let fd : FitsSigned w128 (c.scaled.result -ℤ sum) = difference_fits _ _ c.scaled.ensures.small
+    small in
     let value = simp to_z-of_z at c.scaled.ensures.value in
-    let all : (c.scaled.result -ℤ sum) ≡ slack h c.args._x.now s = ap (λ z. z -ℤ sum) (value ∙ ap h own.counts) ∙ ap (λ z. h (size s) -ℤ z) own.sums in
+    let all : (c.scaled.result -ℤ sum) ≡ slack h c.args._x.now s = ap (λ z. z -ℤ sum)
+    (value ∙ ap h own.counts) ∙ ap (λ z. h (size s) -ℤ z) own.sums in
     simp to_z-of_z all

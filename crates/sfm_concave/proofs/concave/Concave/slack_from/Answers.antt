@@ -11,7 +11,8 @@ scaled-requires-clause-count c =
     let r = c.requires in
     let s = c.args.self.now in
     let few : length c.args.at.now.x.now ≤ 256 = omega (arith, s.few, r.entries) in
-    let sized = ranked_sized c.args.at.now.x.now c.args.ranking.sorted.now c.args.ranking.sums.now r.ranked few r.small in
+    let sized = ranked_sized c.args.at.now.x.now c.args.ranking.sorted.now c.args.ranking.sums.now
+    r.ranked few r.small in
     omega (arith, sized, s.counted, r.entries, c.share_from-rest.ensures.count)
 
 pub returns : goal.returns
@@ -23,4 +24,5 @@ returns c =
     let fr : FitsSigned w128 rest.result.sum = search rules in
     let fd = difference_fits _ _ c.scaled.ensures.small rest.ensures.sum.1 in
     let value = simp to_z-of_z at c.scaled.ensures.value in
-    simp to_z-of_z (ap (λ z. z -ℤ rest.result.sum) (value ∙ ap h rest.ensures.count) ∙ ap (λ z. h (length c.args.ranking.sorted.now - c.args.i) -ℤ z) rest.ensures.sum.0)
+    simp to_z-of_z (ap (λ z. z -ℤ rest.result.sum) (value ∙ ap h rest.ensures.count)
+    ∙ ap (λ z. h (length c.args.ranking.sorted.now - c.args.i) -ℤ z) rest.ensures.sum.0)

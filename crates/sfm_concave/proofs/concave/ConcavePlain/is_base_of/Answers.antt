@@ -15,20 +15,24 @@ returns-then-has_sum c =
     let x = c.args.x.now in
     let q = c.args.q in
     let fq : FitsSigned w128 q = c.ranges.q in
-    let fn : FitsSigned w128 c.scaled.result = share_fits _ (at_most_more _ c.scaled.ensures.small) in
+    let fn : FitsSigned w128 c.scaled.result = share_fits _
+    (at_most_more _ c.scaled.ensures.small) in
     let value = simp to_z-of_z at c.scaled.ensures.value in
     let sum = simp to_z-of_z at (c.if-has_sum.ensures.0 refl) in
     let within = simp to_z-of_z at c.is_within.ensures in (
-      (λ t. base_by_thresholds q s.values x r.factor.low (s.counted ∙ sym r.entries) s.falling (sym (sum ∙ value) ∙ total_of-whole x) (within.0 t)),
+      (λ t. base_by_thresholds q s.values x r.factor.low (s.counted ∙ sym r.entries) s.falling
+          (sym (sum ∙ value) ∙ total_of-whole x) (within.0 t)),
       (λ b. within.1 (λ w lt. concave_slack q s.values x b _ (length-above _ x))),
     )
 
 pub returns-else-has_sum : goal.returns-else-has_sum
 returns-else-has_sum c =
     let fq : FitsSigned w128 c.args.q = c.ranges.q in
-    let fn : FitsSigned w128 c.scaled.result = share_fits _ (at_most_more _ c.scaled.ensures.small) in
+    let fn : FitsSigned w128 c.scaled.result = share_fits _
+    (at_most_more _ c.scaled.ensures.small) in
     let value = simp to_z-of_z at c.scaled.ensures.value in
     let sum = simp to_z-of_z at c.has_sum.ensures in (
       (λ t. absurd (both_ways c.has_sum.result c.if-has_sum.false t)),
-      (λ b. sum.1 (total_of-whole c.args.x.now ∙ (sym (concave_total c.args.q c.args.self.now.values c.args.x.now b) ∙ sym value))),
+      (λ b. sum.1 (total_of-whole c.args.x.now
+          ∙ (sym (concave_total c.args.q c.args.self.now.values c.args.x.now b) ∙ sym value))),
     )

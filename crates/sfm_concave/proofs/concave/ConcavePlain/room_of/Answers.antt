@@ -8,5 +8,7 @@ pub returns : goal.returns
 returns c =
     let r = c.requires in
     let fl : FitsSigned w128 c.least_slack.result = record { sfits = c.least_slack.type_inv } in
-    let here : IsConcaveBase c.args.at.now.q c.args.self.now.values c.args.at.now.x.now = concave_at _ r.factor.low c.args.self.now.counted r.entries c.args.self.now.falling r.base in
-    simp to_z-of_z (concave-capacity here c.args.u c.args.v r.from r.onto r.apart _ c.least_slack.ensures)
+    let here : IsConcaveBase c.args.at.now.q c.args.self.now.values c.args.at.now.x.now = concave_at
+    _ r.factor.low c.args.self.now.counted r.entries c.args.self.now.falling r.base in
+    simp to_z-of_z (concave-capacity here c.args.u c.args.v r.from r.onto r.apart _
+    c.least_slack.ensures)

@@ -8,10 +8,12 @@ use Rattle.sfm_concave.specs.UniformLaws.{rank_of}
 use Rattle.sfm_concave.proofs.uniform.Uniform.has_whole.Goals as goal
 
 pub product-requires-clause-factor : goal.product-requires-clause-factor
-product-requires-clause-factor c = let fq : FitsSigned w128 c.args.q = c.ranges.q in simp to_z-of_z c.requires.factor
+product-requires-clause-factor c = let fq : FitsSigned w128 c.args.q = c.ranges.q in simp to_z-of_z
+    c.requires.factor
 
 pub product-requires-clause-given : goal.product-requires-clause-given
-product-requires-clause-given c = rw (to_z-of_z w128 _ (rank_fits _ c.ranked.ensures.small)) c.ranked.ensures.small
+product-requires-clause-given c = rw (to_z-of_z w128 _ (rank_fits _ c.ranked.ensures.small))
+    c.ranked.ensures.small
 
 pub returns : goal.returns
 returns c =
@@ -21,6 +23,9 @@ returns c =
     let fq : FitsSigned w128 q = c.ranges.q in
     let fr : FitsSigned w128 c.ranked.result = rank_fits _ small in
     let p : c.product.result ≡ (q *ℤ c.ranked.result) = simp to_z-of_z at c.product.ensures in
-    let kept : to_z w128 (of_z w128 c.product.result) ≡ (q *ℤ c.ranked.result) = rw p (to_z-of_z w128 _ (product_fits _ _ c.requires.factor small)) in
-    let is : to_z w128 (of_z w128 c.product.result) ≡ (q *ℤ (s.w *ℤ rank_of s.cap (length c.args.x.now))) = kept ∙ ap (λ z. q *ℤ z) c.ranked.ensures.value in
+    let kept : to_z w128 (of_z w128 c.product.result) ≡ (q *ℤ c.ranked.result) = rw p
+    (to_z-of_z w128 _ (product_fits _ _ c.requires.factor small)) in
+    let is : to_z w128 (of_z w128 c.product.result)
+    ≡ (q *ℤ (s.w *ℤ rank_of s.cap (length c.args.x.now))) =
+    kept ∙ ap (λ z. q *ℤ z) c.ranked.ensures.value in
     subst (λ z. IsTrue c.has_sum.result ↔ (total_of c.args.x.now ≡ z)) is c.has_sum.ensures

@@ -10,11 +10,13 @@ use Rattle.sfm_concave.proofs.uniform.Uniform.ranked.Goals as goal
 use Rattle.sfm_concave.proofs.uniform.Uniform.ranked.Goals.{After-min}
 
 -- what is multiplied is the rank of the count, and what comes of it is small
-multiplied : (c : After-min) → (c.min.result ≡ rank_of c.args.self.now.cap c.args.count) × IsAtMost (10 ^ 21) (c.args.self.now.w *ℤ c.min.result)
+multiplied : (c : After-min) → (c.min.result ≡ rank_of c.args.self.now.cap c.args.count)
+    × IsAtMost (10 ^ 21) (c.args.self.now.w *ℤ c.min.result)
 multiplied c =
     let s = c.args.self.now in
     let fc : FitsSigned w128 s.cap = given_fits _ s.cap_given in
-    let v : c.min.result ≡ rank_of s.cap c.args.count = (simp to_z-of_z at c.min.ensures.value) ∙ ap (λ z. int_min z s.cap) (count_bits c.args.count c.ranges.count) in
+    let v : c.min.result ≡ rank_of s.cap c.args.count = (simp to_z-of_z at c.min.ensures.value)
+    ∙ ap (λ z. int_min z s.cap) (count_bits c.args.count c.ranges.count) in
     let few = c.requires in
     let cap = s.cap_low in
     let low : pos 0 ≤ℤ c.min.result = omega (arith, ints, clamps, v, cap) in

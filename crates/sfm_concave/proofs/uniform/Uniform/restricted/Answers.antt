@@ -9,5 +9,6 @@ new-requires-clause-elements c =
     let s = c.args.self.now in
     let keep = c.args.keep.now in
     let r = c.requires in
-    let is : c.deref.result.now ≡ kept keep s.places = c.deref.ensures.value ∙ (c.in_ok-elements.ensures ∙ ap (λ places. kept keep places) c.as_slice.ensures) in
+    let is : c.deref.result.now ≡ kept keep s.places = c.deref.ensures.value
+    ∙ (c.in_ok-elements.ensures ∙ ap (λ places. kept keep places) c.as_slice.ensures) in
     subst AreElements (sym is) (kept-elements keep s.places r.some.0 r.each r.some.1 s.elements)

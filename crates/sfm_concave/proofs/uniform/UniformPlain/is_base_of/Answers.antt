@@ -19,5 +19,7 @@ returns-else-are_capped c =
     let s = c.args.self.now in
     let fq : FitsSigned w128 c.args.q = c.ranges.q in
     let tests = uniform_tested c.args.q s.w s.cap c.args.x.now c.requires.factor.low s.low in
-    let capped = simp to_z-of_z at c.are_capped.ensures in
-    ((λ t. absurd (both_ways c.are_capped.result c.if-are_capped.false t)), (λ b. capped.1 (tests.0 b).0))
+    let capped = simp to_z-of_z at c.are_capped.ensures in (
+      (λ t. absurd (both_ways c.are_capped.result c.if-are_capped.false t)),
+      (λ b. capped.1 (tests.0 b).0),
+    )

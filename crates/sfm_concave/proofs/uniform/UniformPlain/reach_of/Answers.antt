@@ -20,8 +20,11 @@ returns-then-at-u-clause-reached c =
     let fm : FitsSigned w128 c.most.result = record { sfits = c.most.type_inv } in
     let most = simp to_z-of_z at c.most.ensures.value in
     let h = simp to_z-of_z at c.if-at-u.true in
-    let full : c.most.result ≤ℤ get_or c.args.at.now.x.now c.args.u (pos 0) = omega (arith, ints, h) in
-    rw (c.clear.ensures, r.room_for_answer) (uniform-reach_none c.args.at.now.q s.w s.cap r.factor.low s.low c.args.at.now.x.now r.base c.args.u r.from (λ less. omega (arith, ints, full, most, less)))
+    let full : c.most.result ≤ℤ get_or c.args.at.now.x.now c.args.u
+    (pos 0) = omega (arith, ints, h) in
+    rw (c.clear.ensures, r.room_for_answer)
+    (uniform-reach_none c.args.at.now.q s.w s.cap r.factor.low s.low c.args.at.now.x.now r.base
+    c.args.u r.from (λ less. omega (arith, ints, full, most, less)))
 
 pub returns-clause-reached : goal.returns-clause-reached
 returns-clause-reached c =
@@ -32,8 +35,11 @@ returns-clause-reached c =
     let fm : FitsSigned w128 c.most.result = record { sfits = c.most.type_inv } in
     let most = simp to_z-of_z at c.most.ensures.value in
     let h = simp to_z-of_z at c.if-at-u.false in
-    let lacks : get_or c.args.at.now.x.now c.args.u (pos 0) <ℤ (c.args.at.now.q *ℤ s.w) = omega (arith, ints, h, most) in
-    uniform-reach_over c.args.at.now.q s.w s.cap r.factor.low s.low c.args.at.now.x.now r.base c.args.u r.from lacks c.put_others_over.new.to (c.put_others_over.ensures.places ∙ r.room_for_answer) c.put_others_over.ensures.over
+    let lacks : get_or c.args.at.now.x.now c.args.u
+    (pos 0) <ℤ (c.args.at.now.q *ℤ s.w) = omega (arith, ints, h, most) in
+    uniform-reach_over c.args.at.now.q s.w s.cap r.factor.low s.low c.args.at.now.x.now r.base
+    c.args.u r.from lacks c.put_others_over.new.to
+    (c.put_others_over.ensures.places ∙ r.room_for_answer) c.put_others_over.ensures.over
 
 pub returns-clause-places : goal.returns-clause-places
 returns-clause-places c = c.put_others_over.ensures.places
@@ -41,5 +47,6 @@ returns-clause-places c = c.put_others_over.ensures.places
 pub put_others_over-requires-clause-small : goal.put_others_over-requires-clause-small
 put_others_over-requires-clause-small c = c.requires.small
 
-pub put_others_over-requires-clause-room_for_answer : goal.put_others_over-requires-clause-room_for_answer
+pub put_others_over-requires-clause-room_for_answer
+    : goal.put_others_over-requires-clause-room_for_answer
 put_others_over-requires-clause-room_for_answer c = c.requires.room_for_answer

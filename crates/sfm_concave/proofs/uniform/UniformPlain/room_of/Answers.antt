@@ -14,4 +14,5 @@ returns c =
     let fl : FitsSigned w128 c.least_left.result = record { sfits = c.least_left.type_inv } in
     let most = simp to_z-of_z at c.most.ensures.value in
     let is = rw most at (simp to_z-of_z at c.least_left.ensures) in
-    simp to_z-of_z (uniform-capacity c.args.at.now.q s.w s.cap r.factor.low s.low c.args.at.now.x.now r.base c.args.u c.args.v r.from r.onto r.apart c.least_left.result is)
+    simp to_z-of_z (uniform-capacity c.args.at.now.q s.w s.cap r.factor.low s.low
+    c.args.at.now.x.now r.base c.args.u c.args.v r.from r.onto r.apart c.least_left.result is)

@@ -9,4 +9,5 @@ note_at-requires c =
     let s = c.args.self.now in
     let at = c.args.at.now in
     let v : c.self.inside.term ≡ s = c.self.view_is in
-    rw (factor_kept _ c.requires.factor, c.in_ok-base.ensures, v) (base_of s at.q at.x.now c.requires)
+    rw (factor_kept _ c.requires.factor, c.in_ok-base.ensures, v)
+    (base_of s at.q at.x.now c.requires)

@@ -22,4 +22,7 @@ returns-clause-reached c =
     let r = c.requires in
     let v : c.self.inside.term ≡ s = c.self.view_is in
     let column = rw (factor_kept _ r.based.factor, r.noted.0, v) at c.tell_column.ensures.column in
-    on_ok_weaker c.tell_column.result (reach_is _ (kind_value s) (kind-family s) (kind-submodular s) at.q r.based.factor.low at.x.now c.args.lead.now.from c.tell_column.new.to r.based.entries r.from (c.tell_column.ensures.places ∙ r.room_for_answer)) column
+    on_ok_weaker c.tell_column.result
+    (reach_is _ (kind_value s) (kind-family s) (kind-submodular s) at.q r.based.factor.low
+    at.x.now c.args.lead.now.from c.tell_column.new.to r.based.entries r.from
+    (c.tell_column.ensures.places ∙ r.room_for_answer)) column

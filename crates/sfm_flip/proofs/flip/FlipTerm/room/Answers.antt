@@ -22,5 +22,6 @@ returns-clause-room c =
     let at = c.args.at.now in
     let r = c.requires in
     let v : c.self.inside.term ≡ s = c.self.view_is in
-    let is = rw (factor_kept _ r.based.factor, c.as_slice-x.ensures ∙ c.in_ok-base.ensures, v) at c.room.ensures.room in
+    let is = rw (factor_kept _ r.based.factor, c.as_slice-x.ensures ∙ c.in_ok-base.ensures, v) at
+    c.room.ensures.room in
     IfOk-weaker c.room.result _ _ (room_to s at.q at.x.now r.based c.args.u c.args.v r.pair) is

@@ -12,14 +12,16 @@ room_by-requires-clause-based c =
     let at = c.args.at.now in
     let r = c.requires in
     let v : c.self.inside.term ≡ c.args.self.now = c.self.view_is in
-    rw (factor_kept _ r.based.factor, c.as_slice-x.ensures ∙ r.noted.0, v) (based_from c.args.self.now at.q at.x.now r.based)
+    rw (factor_kept _ r.based.factor, c.as_slice-x.ensures ∙ r.noted.0, v)
+    (based_from c.args.self.now at.q at.x.now r.based)
 
 pub room_by-requires-clause-pair : goal.room_by-requires-clause-pair
 room_by-requires-clause-pair c =
     let at = c.args.at.now in
     let swap = c.args.swap.now in
     let r = c.requires in
-    rw (c.as_slice-x.ensures ∙ r.noted.0) (pair_from c.args.self.now at.q at.x.now r.based swap.u swap.v r.pair)
+    rw (c.as_slice-x.ensures ∙ r.noted.0)
+    (pair_from c.args.self.now at.q at.x.now r.based swap.u swap.v r.pair)
 
 pub returns-clause-room : goal.returns-clause-room
 returns-clause-room c =
@@ -29,5 +31,7 @@ returns-clause-room c =
     let r = c.requires in
     let fa : FitsSigned w128 swap.a = search rules in
     let v : c.self.inside.term ≡ s = c.self.view_is in
-    let is = rw (factor_kept _ r.based.factor, c.as_slice-x.ensures ∙ r.noted.0, v) at (simp to_z-of_z at c.room_by.ensures.room) in
-    IfOk-weaker c.room_by.result _ _ (capacity_to s at.q at.x.now r.based swap.u swap.v r.pair swap.a) is
+    let is = rw (factor_kept _ r.based.factor, c.as_slice-x.ensures ∙ r.noted.0, v) at
+    (simp to_z-of_z at c.room_by.ensures.room) in
+    IfOk-weaker c.room_by.result _ _
+    (capacity_to s at.q at.x.now r.based swap.u swap.v r.pair swap.a) is

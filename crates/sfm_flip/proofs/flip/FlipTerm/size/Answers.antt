@@ -13,7 +13,8 @@ fits : (c : After-size) → FitsSigned w128 (pos 2 *ℤ c.size.result)
 fits c =
     let s = c.self.inside.term in
     let k = length (kind_places s) in
-    let b = kind-bounded s (empty_set k) (pos 0) (length-replicate k _) (kind-submodular s).at_empty in
+    let b = kind-bounded s (empty_set k) (pos 0) (length-replicate k _)
+    (kind-submodular s).at_empty in
     let i = c.self.invariant in
     let e = c.size.ensures in
     omega (arith, ints, b, i, e)

@@ -12,4 +12,5 @@ turn-requires c =
     let q = c.args.q in
     let e = rw (factor_kept _ c.requires.factor) at c.in_ok-start.ensures.start in
     let i : kind_size s ≤ℤ pos (5 * 10 ^ 17) = c.self.invariant in
-    rw e (starts-entries (kind_size s) q (kind_start s q) c.requires.factor (omega (arith, ints, i)) (kind-starts_small s q c.requires.factor.low))
+    rw e (starts-entries (kind_size s) q (kind_start s q) c.requires.factor (omega (arith, ints, i))
+    (kind-starts_small s q c.requires.factor.low))

@@ -14,26 +14,45 @@ pub overflow_sub-result : goal.overflow_sub-result
 overflow_sub-result c =
     let t = c.args.self.now in
     let v : c.self.inside.term ≡ t = c.self.view_is in
-    let one = rw (v, c.in_ok-whole.ensures, c.len.ensures, c.requires) at (sym c.in_ok-all.ensures.value ∙ c.in-Some.is) in
+    let one = rw (v, c.in_ok-whole.ensures, c.len.ensures, c.requires) at
+    (sym c.in_ok-all.ensures.value ∙ c.in-Some.is) in
     let two = rw (v, c.in_ok-rest.ensures) at (sym c.in_ok-value.ensures.value ∙ c.in-Some-2.is) in
-    let b1 = kind-bounded t (whole_set (length (kind_places t))) c.in-Some.all (length-replicate _ _) one in
-    let b2 = kind-bounded t (complement c.args.s.now) c.in-Some-2.value (length-complement c.args.s.now ∙ c.requires) two in
+    let b1 = kind-bounded t (whole_set (length (kind_places t))) c.in-Some.all
+    (length-replicate _ _) one in
+    let b2 = kind-bounded t (complement c.args.s.now) c.in-Some-2.value
+    (length-complement c.args.s.now ∙ c.requires) two in
     let i : kind_size t ≤ℤ pos (5 * 10 ^ 17) = rw v at c.self.invariant in
     let f1 : FitsSigned w128 c.in-Some.all = omega (arith, ints, b1, i) in
     let f2 : FitsSigned w128 c.in-Some-2.value = omega (arith, ints, b2, i) in
-    let f3 : FitsSigned w128 (c.in-Some-2.value -ℤ c.in-Some.all) = omega (arith, ints, b1, b2, i) in
+    let f3 : FitsSigned w128 (c.in-Some-2.value -ℤ c.in-Some.all) = omega (
+      arith,
+      ints,
+      b1,
+      b2,
+      i,
+    ) in
     simp to_z-of_z f3
 
 pub returns-in-Some-2-clause-value : goal.returns-in-Some-2-clause-value
 returns-in-Some-2-clause-value c =
     let t = c.args.self.now in
     let v : c.self.inside.term ≡ t = c.self.view_is in
-    let one = rw (v, c.in_ok-whole.ensures, c.len.ensures, c.requires) at (sym c.in_ok-all.ensures.value ∙ c.in-Some.is) in
+    let one = rw (v, c.in_ok-whole.ensures, c.len.ensures, c.requires) at
+    (sym c.in_ok-all.ensures.value ∙ c.in-Some.is) in
     let two = rw (v, c.in_ok-rest.ensures) at (sym c.in_ok-value.ensures.value ∙ c.in-Some-2.is) in
-    let b1 = kind-bounded t (whole_set (length (kind_places t))) c.in-Some.all (length-replicate _ _) one in
-    let b2 = kind-bounded t (complement c.args.s.now) c.in-Some-2.value (length-complement c.args.s.now ∙ c.requires) two in
+    let b1 = kind-bounded t (whole_set (length (kind_places t))) c.in-Some.all
+    (length-replicate _ _) one in
+    let b2 = kind-bounded t (complement c.args.s.now) c.in-Some-2.value
+    (length-complement c.args.s.now ∙ c.requires) two in
     let i : kind_size t ≤ℤ pos (5 * 10 ^ 17) = rw v at c.self.invariant in
     let f1 : FitsSigned w128 c.in-Some.all = omega (arith, ints, b1, i) in
     let f2 : FitsSigned w128 c.in-Some-2.value = omega (arith, ints, b2, i) in
-    let f3 : FitsSigned w128 (c.in-Some-2.value -ℤ c.in-Some.all) = omega (arith, ints, b1, b2, i) in
-    simp to_z-of_z (sym (flipped-some _ (kind_value t) c.args.s.now c.in-Some-2.value c.in-Some.all two one))
+    let f3 : FitsSigned w128 (c.in-Some-2.value -ℤ c.in-Some.all) = omega (
+      arith,
+      ints,
+      b1,
+      b2,
+      i,
+    ) in
+    simp to_z-of_z
+    (sym (flipped-some _ (kind_value t) c.args.s.now c.in-Some-2.value c.in-Some.all two one))

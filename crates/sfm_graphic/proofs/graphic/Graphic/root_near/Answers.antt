@@ -8,4 +8,6 @@ pub bring-requires-clause-over : goal.bring-requires-clause-over
 bring-requires-clause-over c =
     let r = c.requires in
     let s = c.args.self.now in
-    over_any (numbered s.ends) (vertex_count s.ends) (c.args.at.now.q *ℤ s.w) c.args.at.now.x.now c.args.note.now (r.base.sized ∙ (sym s.same_count ∙ sym (length-numbered s.ends []))) r.noted
+    over_any (numbered s.ends) (vertex_count s.ends) (c.args.at.now.q *ℤ s.w) c.args.at.now.x.now
+    c.args.note.now (r.base.sized ∙ (sym s.same_count ∙ sym (length-numbered s.ends [])))
+    r.noted

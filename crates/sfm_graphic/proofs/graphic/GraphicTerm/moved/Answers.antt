@@ -9,13 +9,16 @@ use Rattle.sfm_matroid.proofs.Passed.{factor_fits}
 use Rattle.sfm_graphic.proofs.graphic.GraphicTerm.moved.Goals as goal
 
 pub moved-requires : goal.moved-requires
-moved-requires c = let b = c.requires.based in can_move _ _ _ (capped_base c.args.self.now c.args.at.now.q b.factor) c.args.at.now.x.now b.entries b.base _ _ _ c.requires.can
+moved-requires c = let b = c.requires.based in can_move _ _ _
+    (capped_base c.args.self.now c.args.at.now.q b.factor) c.args.at.now.x.now b.entries b.base _ _
+    _ c.requires.can
 
 pub take_spare-requires-clause-over : goal.take_spare-requires-clause-over
 take_spare-requires-clause-over c =
     let r = c.requires in
     let s = c.args.self.now in
-    over_any (numbered s.ends) (vertex_count s.ends) (c.args.at.now.q *ℤ s.w) c.args.at.now.x.now c.args.note.now (edges_sized s c.args.at.now.x.now r.based.entries) r.noted
+    over_any (numbered s.ends) (vertex_count s.ends) (c.args.at.now.q *ℤ s.w) c.args.at.now.x.now
+    c.args.note.now (edges_sized s c.args.at.now.x.now r.based.entries) r.noted
 
 pub bring-requires-clause-base : goal.bring-requires-clause-base
 bring-requires-clause-base c =

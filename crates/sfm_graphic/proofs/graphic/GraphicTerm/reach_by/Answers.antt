@@ -12,5 +12,11 @@ returns-clause-reached c =
     let at = c.args.at.now in
     let lead = c.args.lead.now in
     let near = c.in_ok-root_near.ensures in
-    let row = rw (near.noted.split, cap_passed at.q s.w b.factor s.given c.cap_of-cap.result c.cap_of-cap.ensures.value) at c.in_ok-row.ensures.row in
-    row_reach (length s.places) at.q s.w s.ends s.same_count (product_low at.q s.w b.factor s.low) at.x.now b.entries b.base lead.onto c.root_near.new.note.root lead.from r.onto near.end r.from r.leads c.row.new.to c.in_ok-row.ensures.places row
+    let row = rw (
+      near.noted.split,
+      cap_passed at.q s.w b.factor s.given c.cap_of-cap.result c.cap_of-cap.ensures.value,
+    ) at
+    c.in_ok-row.ensures.row in
+    row_reach (length s.places) at.q s.w s.ends s.same_count (product_low at.q s.w b.factor s.low)
+    at.x.now b.entries b.base lead.onto c.root_near.new.note.root lead.from r.onto near.end
+    r.from r.leads c.row.new.to c.in_ok-row.ensures.places row

@@ -16,6 +16,10 @@ returns-clause-room c =
     let s = c.args.self.now in
     let at = c.args.at.now in
     let fm : FitsSigned w128 c.in_ok-most.most = search rules in
-    let fv : FitsSigned w128 (get_or at.x.now c.args.v (pos 0)) = amount_fits _ (All-get_or IsAmount at.x.now c.args.v (pos 0) pair.onto (capped_amounts _ at.x.now (capped_base s at.q b.factor at.x.now b.entries b.base))) in
+    let fv : FitsSigned w128 (get_or at.x.now c.args.v (pos 0)) = amount_fits _
+    (All-get_or IsAmount at.x.now c.args.v (pos 0) pair.onto
+    (capped_amounts _ at.x.now (capped_base s at.q b.factor at.x.now b.entries b.base))) in
     let most = simp to_z-of_z at c.in_ok-most.ensures.room in
-    simp to_z-of_z (split_room (length s.places) at.q s.w s.ends s.same_count (product_low at.q s.w b.factor s.low) at.x.now b.entries b.base c.args.u c.args.v pair.from pair.onto pair.apart _ most)
+    simp to_z-of_z (split_room (length s.places) at.q s.w s.ends s.same_count
+    (product_low at.q s.w b.factor s.low) at.x.now b.entries b.base c.args.u c.args.v pair.from
+    pair.onto pair.apart _ most)

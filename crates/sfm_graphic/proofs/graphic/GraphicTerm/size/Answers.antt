@@ -3,4 +3,5 @@ use Rattle.sfm_matroid.proofs.Passed.{weigh_passed}
 use Rattle.sfm_graphic.proofs.graphic.GraphicTerm.size.Goals as goal
 
 pub worth-requires : goal.worth-requires
-worth-requires c = let s = c.args.self.now in weigh_passed s.w s.basis s.given s.low (rw (graphic_kept s) s.few)
+worth-requires c = let s = c.args.self.now in weigh_passed s.w s.basis s.given s.low
+    (rw (graphic_kept s) s.few)

@@ -8,7 +8,9 @@ pub write_start-requires-clause-entries : goal.write_start-requires-clause-entri
 write_start-requires-clause-entries c = c.requires.entries ∙ sym (graphic_kept c.args.self.now)
 
 pub returns-clause-start : goal.returns-clause-start
-returns-clause-start c = let s = c.args.self.now in start_passed c.args.q s.w c.ranges.q s.given _ _ s.based _ c.write_start.ensures
+returns-clause-start c = let s = c.args.self.now in start_passed c.args.q s.w c.ranges.q s.given _ _
+    s.based _ c.write_start.ensures
 
 pub returns-clause-greedy : goal.returns-clause-greedy
-returns-clause-greedy c = let s = c.args.self.now in let e = returns-clause-start c in rw e (graphic-greedy (length s.places) s.w s.ends s.same_count s.low c.args.q)
+returns-clause-greedy c = let s = c.args.self.now in let e = returns-clause-start c in rw e
+    (graphic-greedy (length s.places) s.w s.ends s.same_count s.low c.args.q)

@@ -10,13 +10,26 @@ pub note_over-requires-clause-multiple : goal.note_over-requires-clause-multiple
 note_over-requires-clause-multiple c =
     let fm : FitsSigned w128 c.args.m = c.ranges.m in
     let b = rw c.in-Graphic-Graphic-Graphic.is-0 at c.requires.multiple in
-    simp to_z-of_z (record { factor = b.factor; entries = b.entries; bounded = b.bounded; small = b.small; base = b.base })
+    simp to_z-of_z (record {
+      factor = b.factor;
+      entries = b.entries;
+      bounded = b.bounded;
+      small = b.small;
+      base = b.base;
+    })
 
-pub note_over-requires-in-Transversal-Transversal-Transversal-clause-multiple : goal.note_over-requires-in-Transversal-Transversal-Transversal-clause-multiple
+pub note_over-requires-in-Transversal-Transversal-Transversal-clause-multiple
+    : goal.note_over-requires-in-Transversal-Transversal-Transversal-clause-multiple
 note_over-requires-in-Transversal-Transversal-Transversal-clause-multiple c =
     let fm : FitsSigned w128 c.args.m = c.ranges.m in
     let b = rw c.in-Transversal-Transversal-Transversal.is-0 at c.requires.multiple in
-    simp to_z-of_z (record { factor = b.factor; entries = b.entries; bounded = b.bounded; small = b.small; base = b.base })
+    simp to_z-of_z (record {
+      factor = b.factor;
+      entries = b.entries;
+      bounded = b.bounded;
+      small = b.small;
+      base = b.base;
+    })
 
 pub returns : goal.returns
 returns c = λ done.
@@ -26,7 +39,9 @@ returns c = λ done.
           let fit = simp to_z-of_z at (w.note_over.ensures (rw w.result-is at done)) in
           rw (w.in-Graphic-Graphic-Graphic.is-0, w.over-is) fit)
       | in-Transversal-Transversal-Transversal w ↦ (
-          let fit = simp to_z-of_z at (w.note_over-in-Transversal-Transversal-Transversal.ensures (rw w.result-is at done)) in
+          let fit = simp to_z-of_z at
+          (w.note_over-in-Transversal-Transversal-Transversal.ensures
+          (rw w.result-is at done)) in
           rw (w.in-Transversal-Transversal-Transversal.is-0, w.over-is) fit)
       | in_default w ↦ absurd (both_ways _ w.result-is done)
       | in_default-2 w ↦ absurd (both_ways _ w.result-is done)

@@ -8,10 +8,23 @@ pub boxed_times-requires-clause-multiple : goal.boxed_times-requires-clause-mult
 boxed_times-requires-clause-multiple c =
     let fm : FitsSigned w128 c.args.m = c.ranges.m in
     let b = rw c.in-Graphic-Graphic.is-0 at c.requires.multiple in
-    simp to_z-of_z (record { factor = b.factor; entries = b.entries; bounded = b.bounded; small = b.small; base = b.base })
+    simp to_z-of_z (record {
+      factor = b.factor;
+      entries = b.entries;
+      bounded = b.bounded;
+      small = b.small;
+      base = b.base;
+    })
 
-pub boxed_times-requires-in-Transversal-Transversal-clause-multiple : goal.boxed_times-requires-in-Transversal-Transversal-clause-multiple
+pub boxed_times-requires-in-Transversal-Transversal-clause-multiple
+    : goal.boxed_times-requires-in-Transversal-Transversal-clause-multiple
 boxed_times-requires-in-Transversal-Transversal-clause-multiple c =
     let fm : FitsSigned w128 c.args.m = c.ranges.m in
     let b = rw c.in-Transversal-Transversal.is-0 at c.requires.multiple in
-    simp to_z-of_z (record { factor = b.factor; entries = b.entries; bounded = b.bounded; small = b.small; base = b.base })
+    simp to_z-of_z (record {
+      factor = b.factor;
+      entries = b.entries;
+      bounded = b.bounded;
+      small = b.small;
+      base = b.base;
+    })

@@ -9,4 +9,10 @@ pub invariant_of-self-2 : goal.invariant_of-self-2
 invariant_of-self-2 c =
     let f : FitsSigned w128 c.args.cap = c.ranges.cap in
     let n = simp to_z-of_z at c.new.ensures in
-    rw (c.in_ok-push.ensures.items, n) (All-push IsGroup _ _ c.self.invariant (record { low = c.requires.low; given = c.requires.given; ascending = c.requires.ascending }))
+    rw (c.in_ok-push.ensures.items, n)
+    (All-push IsGroup _ _ c.self.invariant
+    (record {
+      low = c.requires.low;
+      given = c.requires.given;
+      ascending = c.requires.ascending;
+    }))

@@ -6,7 +6,9 @@ use Rattle.sfm_laminar.proofs.index.Index.new.Goals as goal
 pub loop-e-preserved : goal.loop-e-preserved
 loop-e-preserved c =
     let groups = c.args.groups.now in
-    rw c.in_ok-push.ensures.items (made_more (List ℕ) [] (λ p. holders groups p (length groups)) c.loop-e.e _ _ c.loop-e.invariant c.in_ok-holders_of.ensures)
+    rw c.in_ok-push.ensures.items
+    (made_more (List ℕ) [] (λ p. holders groups p (length groups)) c.loop-e.e _ _
+    c.loop-e.invariant c.in_ok-holders_of.ensures)
 
 pub returns : goal.returns
 returns c =

@@ -7,10 +7,17 @@ use Rattle.sfm_laminar.specs.Crossing.{group_at}
 use Rattle.sfm_laminar.specs.Rooms.{slack_of}
 use Rattle.sfm_laminar.proofs.laminar.Laminar.are_bounded.Goals as goal
 
-more : (q w : ℤ) (x : List ℤ) (groups : List Group) (i : ℕ) → ((j : ℕ) → j < i → pos 0 ≤ℤ slack_of q w x (group_at groups j)) → pos 0 ≤ℤ slack_of q w x (group_at groups i)
+more : (q w : ℤ) (x : List ℤ) (groups : List Group) (i : ℕ)
+    → ((j : ℕ) → j < i → pos 0 ≤ℤ slack_of q w x (group_at groups j))
+    → pos 0 ≤ℤ slack_of q w x (group_at groups i)
     → (j : ℕ) → j < i + 1 → pos 0 ≤ℤ slack_of q w x (group_at groups j)
 more q w x groups i before here = λ j l.
-    ⊎_elim (λ less. before j less) (λ ge. let same : i ≡ j = omega (arith, l, ge) in subst (λ z. pos 0 ≤ℤ slack_of q w x (group_at groups z)) same here) (cases_lt j i)
+    ⊎_elim (λ less. before j less)
+    (λ ge. let same : i ≡ j = omega (
+      arith,
+      l,
+      ge,
+    ) in subst (λ z. pos 0 ≤ℤ slack_of q w x (group_at groups z)) same here) (cases_lt j i)
 
 pub loop-i-preserved : goal.loop-i-preserved
 loop-i-preserved c =
@@ -32,7 +39,8 @@ returns-then-slack-lt0 c =
     let t = simp to_z-of_z at c.if-slack-lt0.true in
     let lt : c.loop-i.i < length s.groups = rw (← c.len-i-end.ensures) c.loop-i-test.true in (
       (λ e. absurd (false≢true e)),
-      (λ h. let low = h c.loop-i.i lt in let least : pos 0 ≤ℤ c.slack.result = rw made low in absurd (omega (arith, ints, least, t))),
+      (λ h. let low = h c.loop-i.i lt in let least : pos 0 ≤ℤ c.slack.result = rw made
+          low in absurd (omega (arith, ints, least, t))),
     )
 
 pub returns : goal.returns

@@ -7,7 +7,8 @@ use Rattle.sfm_laminar.proofs.laminar.Laminar.has.Goals as goal
 pub contains-requires : goal.contains-requires
 contains-requires c =
     let s = c.args.self.now in
-    let l = ap length c.mask.ensures ∙ length-mask (length s.places) (group_at s.groups c.args.i).members in
+    let l = ap length c.mask.ensures
+    ∙ length-mask (length s.places) (group_at s.groups c.args.i).members in
     omega (arith, l, c.requires.place)
 
 pub returns-clause-masked : goal.returns-clause-masked
@@ -19,5 +20,6 @@ returns-clause-member c =
     let g = group_at s.groups c.args.i in
     let is = c.contains.ensures ∙ ap (λ t. get_or t c.args.v false) c.mask.ensures in (
       (λ t. mask-contains (length s.places) g c.args.v (sym is ∙ t)),
-      (λ h. is ∙ contains-mask (length s.places) g c.args.v (s.grouped.below c.args.i no_group c.requires.group) h),
+      (λ h. is ∙ contains-mask (length s.places) g c.args.v
+          (s.grouped.below c.args.i no_group c.requires.group) h),
     )

@@ -11,7 +11,9 @@ pub returns : goal.returns
 returns c =
     let a = get_or c.args.at.now.x.now c.args.u (pos 0) in
     let fq : FitsSigned w128 c.args.at.now.q = omega (arith, ints, c.requires.factor) in
-    let fa : FitsSigned w128 a = entry_fits _ (All-get_or IsEntry c.args.at.now.x.now c.args.u (pos 0) c.requires.from c.requires.small) in
+    let fa : FitsSigned w128 a = entry_fits _
+    (All-get_or IsEntry c.args.at.now.x.now c.args.u (pos 0) c.requires.from
+    c.requires.small) in
     let fm : FitsSigned w128 c.place_most.result = record { sfits = c.place_most.type_inv } in
     let most = simp to_z-of_z at c.place_most.ensures.value in
     rw (← most) (simp to_z-of_z (less_test a c.place_most.result))

@@ -9,7 +9,9 @@ use Rattle.sfm_laminar.proofs.laminar.Laminar.least_left.Goals.{then-not-has, el
 
 pub loop-i-init : goal.loop-i-init
 loop-i-init c =
-    let fl : FitsSigned w128 c.least_entry-least.result = record { sfits = c.least_entry-least.type_inv } in
+    let fl : FitsSigned w128 c.least_entry-least.result = record {
+      sfits = c.least_entry-least.type_inv;
+    } in
     simp to_z-of_z (least_begin _ _ _ _ _ _ _ _ c.least_entry-least.ensures)
 
 pub loop-i-preserved : goal.loop-i-preserved
@@ -27,12 +29,18 @@ loop-i-preserved c =
       | then-not-has w ↦
           (let fs : FitsSigned w128 w.slack_by.result = record { sfits = w.slack_by.type_inv } in
           let fm : FitsSigned w128 w.min-least.result = record { sfits = w.min-least.type_inv } in
-          let is : to_z w128 c.if-not-has.least-bits ≡ w.min-least.result = w.least-is ∙ to_z-of_z w128 w.min-least.result fm in
+          let is : to_z w128 c.if-not-has.least-bits ≡ w.min-least.result = w.least-is
+          ∙ to_z-of_z w128 w.min-least.result fm in
           let b = to_z-of_z w128 w.slack_by.result fs ∙ w.slack_by.ensures in
-          rw is (least_with q s.w s.groups x es u v i _ _ _ inv here.0 (here.1, λ h. both_ways c.has.result w.if-not-has.true (c.has.ensures.member.1 h)) b w.min-least.ensures.value))
-      | else-not-has w ↦ rw w.least-is (least_without q s.w s.groups x es u v i _ inv (c.has.ensures.member.0 w.if-not-has.false))
+          rw is (least_with q s.w s.groups x es u v i _ _ _ inv here.0
+          (here.1, λ h. both_ways c.has.result w.if-not-has.true (c.has.ensures.member.1 h)) b
+          w.min-least.ensures.value))
+      | else-not-has w ↦ rw w.least-is
+          (least_without q s.w s.groups x es u v i _ inv
+          (c.has.ensures.member.0 w.if-not-has.false))
     ]
 
 pub returns : goal.returns
 returns c =
-    least_all _ _ _ _ _ _ _ _ _ c.loop-i.invariant (omega (arith, c.loop-i-test.false)) c.holders-holders.ensures.exact
+    least_all _ _ _ _ _ _ _ _ _ c.loop-i.invariant (omega (arith, c.loop-i-test.false))
+    c.holders-holders.ensures.exact

@@ -9,14 +9,16 @@ overflow_mul-result c =
     let s = c.args.self.now in
     let fw : FitsSigned w128 s.w = given_fits _ s.given in
     let fc : FitsSigned w128 c.args.count = c.ranges.count in
-    simp to_z-of_z (rank_fits _ (rank_small s.w c.args.count s.low s.given c.requires.low c.requires.high))
+    simp to_z-of_z
+    (rank_fits _ (rank_small s.w c.args.count s.low s.given c.requires.low c.requires.high))
 
 pub returns-clause-value : goal.returns-clause-value
 returns-clause-value c =
     let s = c.args.self.now in
     let fw : FitsSigned w128 s.w = given_fits _ s.given in
     let fc : FitsSigned w128 c.args.count = c.ranges.count in
-    let fp : FitsSigned w128 (s.w *ℤ c.args.count) = rank_fits _ (rank_small s.w c.args.count s.low s.given c.requires.low c.requires.high) in
+    let fp : FitsSigned w128 (s.w *ℤ c.args.count) = rank_fits _
+    (rank_small s.w c.args.count s.low s.given c.requires.low c.requires.high) in
     simp to_z-of_z refl
 
 pub returns-clause-small : goal.returns-clause-small

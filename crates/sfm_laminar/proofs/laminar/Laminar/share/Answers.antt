@@ -14,7 +14,8 @@ contains-requires c =
 pub returns-then-not-contains : goal.returns-then-not-contains
 returns-then-not-contains c =
     let s = c.args.self.now in
-    let out = ap (λ t. get_or t c.args.j false) (sym s.based) ∙ (sym c.contains.ensures ∙ c.if-not-contains.true) in
+    let out = ap (λ t. get_or t c.args.j false) (sym s.based)
+    ∙ (sym c.contains.ensures ∙ c.if-not-contains.true) in
     sym (share-out c.args.q s.w (basis_of (length s.places) s.groups) c.args.j out)
 
 pub returns : goal.returns
@@ -23,5 +24,7 @@ returns c =
     let fq : FitsSigned w128 c.args.q = c.ranges.q in
     let fm : FitsSigned w128 c.place_most.result = record { sfits = c.place_most.type_inv } in
     let most = simp to_z-of_z at c.place_most.ensures.value in
-    let has = ap (λ t. get_or t c.args.j false) (sym s.based) ∙ (sym c.contains.ensures ∙ c.if-not-contains.false) in
-    simp to_z-of_z (most ∙ sym (share-in c.args.q s.w (basis_of (length s.places) s.groups) c.args.j has))
+    let has = ap (λ t. get_or t c.args.j false) (sym s.based)
+    ∙ (sym c.contains.ensures ∙ c.if-not-contains.false) in
+    simp to_z-of_z
+    (most ∙ sym (share-in c.args.q s.w (basis_of (length s.places) s.groups) c.args.j has))

@@ -13,4 +13,7 @@ loop-i-preserved c =
     let fs : FitsSigned w128 c.slack.result = record { sfits = c.slack.type_inv } in
     let inv = c.loop-i.invariant in
     let e = simp to_z-of_z at c.slack.ensures in
-    rw c.in_ok-push.ensures.items (simp to_z-of_z (made_more ℤ (pos 0) (λ p. slack_of c.args.at.now.q s.w c.args.at.now.x.now (group_at s.groups p)) c.loop-i.i c.loop-i.slacks.items c.slack.result inv e))
+    rw c.in_ok-push.ensures.items
+    (simp to_z-of_z (made_more ℤ (pos 0)
+    (λ p. slack_of c.args.at.now.q s.w c.args.at.now.x.now (group_at s.groups p)) c.loop-i.i
+    c.loop-i.slacks.items c.slack.result inv e))

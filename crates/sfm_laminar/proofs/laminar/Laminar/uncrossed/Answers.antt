@@ -17,19 +17,26 @@ use Rattle.sfm_laminar.proofs.laminar.Laminar.uncrossed.Goals.{After-places}
 grouped : (c : After-places) → AreGroups (length c.args.elements.now) c.args.groups
 grouped c =
     let P : List Group → Type 0 = λ gs. All IsGroup gs in
-    record { each = subst P c.groups.view_is c.groups.invariant; below = c.requires.below; none = c.requires.none }
+    record {
+      each = subst P c.groups.view_is c.groups.invariant;
+      below = c.requires.below;
+      none = c.requires.none;
+    }
 
 pub grow-requires-clause-grouped : goal.grow-requires-clause-grouped
 grow-requires-clause-grouped c =
-    rw (ap length c.in_ok-all.ensures ∙ length-replicate (length c.args.elements.now) true) (grouped (goal.at.grow-requires-clause-grouped c).After-places)
+    rw (ap length c.in_ok-all.ensures ∙ length-replicate (length c.args.elements.now) true)
+    (grouped (goal.at.grow-requires-clause-grouped c).After-places)
 
 pub grow-requires-clause-few : goal.grow-requires-clause-few
 grow-requires-clause-few c =
     let k = length c.args.elements.now in
-    rw (ap length c.in_ok-all.ensures ∙ length-replicate k true) (placed_few 256 c.args.elements.now c.requires.elements.placed)
+    rw (ap length c.in_ok-all.ensures ∙ length-replicate k true)
+    (placed_few 256 c.args.elements.now c.requires.elements.placed)
 
 pub invariant_of-result-clause-few : goal.invariant_of-result-clause-few
-invariant_of-result-clause-few c = rw c.in_ok-places.ensures (placed_few 256 c.args.elements.now c.requires.elements.placed)
+invariant_of-result-clause-few c =
+    rw c.in_ok-places.ensures (placed_few 256 c.args.elements.now c.requires.elements.placed)
 
 pub invariant_of-result-clause-grouped : goal.invariant_of-result-clause-grouped
 invariant_of-result-clause-grouped c =
@@ -37,7 +44,9 @@ invariant_of-result-clause-grouped c =
 
 pub invariant_of-result-clause-based : goal.invariant_of-result-clause-based
 invariant_of-result-clause-based c =
-    basis_from (length c.args.elements.now) c.args.groups _ _ c.in_ok-all.ensures c.in_ok-basis.ensures ∙ ap (λ n. basis_of n c.args.groups) (ap length (sym c.in_ok-places.ensures))
+    basis_from (length c.args.elements.now) c.args.groups _ _ c.in_ok-all.ensures
+    c.in_ok-basis.ensures ∙ ap (λ n. basis_of n c.args.groups)
+    (ap length (sym c.in_ok-places.ensures))
 
 pub invariant_of-result-clause-indexed : goal.invariant_of-result-clause-indexed
 invariant_of-result-clause-indexed c = rw c.in_ok-places.ensures c.in_ok-index.ensures
@@ -49,16 +58,20 @@ pub invariant_of-result-clause-elements : goal.invariant_of-result-clause-elemen
 invariant_of-result-clause-elements c = rw c.in_ok-places.ensures c.requires.elements
 
 pub invariant_of-result-clause-low : goal.invariant_of-result-clause-low
-invariant_of-result-clause-low c = subst (λ z. pos 0 ≤ℤ z) (sym (to_z-of_z w128 c.args.w c.ranges.w)) c.requires.low
+invariant_of-result-clause-low c =
+    subst (λ z. pos 0 ≤ℤ z) (sym (to_z-of_z w128 c.args.w c.ranges.w)) c.requires.low
 
 pub invariant_of-result-clause-given : goal.invariant_of-result-clause-given
-invariant_of-result-clause-given c = subst IsGiven (sym (to_z-of_z w128 c.args.w c.ranges.w)) c.requires.given
+invariant_of-result-clause-given c = subst IsGiven (sym (to_z-of_z w128 c.args.w c.ranges.w))
+    c.requires.given
 
 pub new-requires-2 : goal.new-requires-2
 new-requires-2 c = record { below = c.requires.below }
 
 pub grow-requires-clause-indexed : goal.grow-requires-clause-indexed
-grow-requires-clause-indexed c = rw (ap length c.in_ok-all.ensures ∙ length-replicate (length c.args.elements.now) true) c.in_ok-index.ensures
+grow-requires-clause-indexed c =
+    rw (ap length c.in_ok-all.ensures ∙ length-replicate (length c.args.elements.now) true)
+    c.in_ok-index.ensures
 
 pub returns : goal.returns
 returns c = (c.in_ok-places.ensures, to_z-of_z w128 c.args.w c.ranges.w, refl)

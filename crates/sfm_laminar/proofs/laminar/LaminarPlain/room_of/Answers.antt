@@ -11,4 +11,6 @@ returns c =
     let fl : FitsSigned w128 c.least_left.result = record { sfits = c.least_left.type_inv } in
     let ku : c.args.u < length s.places = rw (← r.entries) r.from in
     let kv : c.args.v < length s.places = rw (← r.entries) r.onto in
-    simp to_z-of_z (laminar-capacity (length s.places) c.args.at.now.q s.w s.groups r.factor.low s.low s.grouped c.args.at.now.x.now r.entries r.base c.args.u c.args.v ku kv r.apart c.least_left.result c.least_left.ensures)
+    simp to_z-of_z (laminar-capacity (length s.places) c.args.at.now.q s.w s.groups r.factor.low
+    s.low s.grouped c.args.at.now.x.now r.entries r.base c.args.u c.args.v ku kv r.apart
+    c.least_left.result c.least_left.ensures)

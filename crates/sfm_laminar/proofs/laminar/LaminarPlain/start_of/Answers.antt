@@ -14,6 +14,10 @@ returns c =
     let k = length s.places in
     let put = c.write_each.ensures in
     let sized = put.places ∙ c.requires.entries in
-    let is : c.write_each.new.x ≡ laminar_start k q s.w s.groups = ext_get_or (pos 0) c.write_each.new.x (laminar_start k q s.w s.groups) (sized ∙ sym (at_places-length (q *ℤ s.w) (basis_of k s.groups) ∙ length-basis k s.groups s.grouped))
-    (λ j lt. let h = put.shares j (omega (arith, lt, put.places)) in let e = to_z-of_z w128 q c.ranges.q in first_of (cc, search rules, grind arith)) in
+    let is : c.write_each.new.x ≡ laminar_start k q s.w s.groups = ext_get_or (pos 0)
+    c.write_each.new.x (laminar_start k q s.w s.groups)
+    (sized ∙ sym (at_places-length (q *ℤ s.w) (basis_of k s.groups)
+    ∙ length-basis k s.groups s.grouped))
+    (λ j lt. let h = put.shares j (omega (arith, lt, put.places)) in let e = to_z-of_z w128 q
+    c.ranges.q in first_of (cc, search rules, grind arith)) in
     record { start = is; greedy = rw is (laminar-greedy k s.w s.groups s.low s.grouped q) }

@@ -5,4 +5,5 @@ use Rattle.sfm_laminar.proofs.Made.{AreMade}
 use Rattle.sfm_laminar.proofs.masks.Masks.new.Given as goal
 
 abbrev pub invariant-loop-i : goal.invariant-loop-i
-invariant-loop-i l = AreMade (List Bool) [] (λ p. mask l.k (group_at l.groups p).members) l.i l.sets.items
+invariant-loop-i l = AreMade (List Bool) [] (λ p. mask l.k (group_at l.groups p).members) l.i
+    l.sets.items

@@ -18,4 +18,5 @@ invariant_of-result c =
     let here = ap length c.self.view_is in
     let items = ap length c.deref-slots-items.ensures.value in
     let past = c.loop-slots-test.false in
-    rw (c.loop-slots.invariant ∙ take_all i now (omega (arith, here, items, past)) ∙ sym c.self.view_is) c.self.invariant
+    rw (c.loop-slots.invariant ∙ take_all i now (omega (arith, here, items, past))
+    ∙ sym c.self.view_is) c.self.invariant

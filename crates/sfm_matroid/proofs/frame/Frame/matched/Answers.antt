@@ -16,7 +16,8 @@ lists : (c : In_ok-kept) → c.in_ok-kept.kept.demand.lists ≡ c.args.self.now
 lists c = frame_lists c.args.self.now c.in_ok-kept.kept.demand (framed c)
 
 pub take_each-requires-clause-sized : goal.take_each-requires-clause-sized
-take_each-requires-clause-sized c = rw (lists (goal.at.take_each-requires-clause-sized c).In_ok-kept) c.requires
+take_each-requires-clause-sized c =
+    rw (lists (goal.at.take_each-requires-clause-sized c).In_ok-kept) c.requires
 
 pub take_each-requires-clause-none : goal.take_each-requires-clause-none
 take_each-requires-clause-none c =
@@ -28,11 +29,13 @@ take_each-requires-clause-none c =
       below = (framed at).below;
       places = length-replicate _ _;
       taken = refl;
-      split = (framed at).none ∙ ap (λ x. slot_demands entries (length d.capacities) (pos 1) x) (sym (ones-none (length entries)));
+      split = (framed at).none ∙ ap (λ x. slot_demands entries (length d.capacities) (pos 1) x)
+          (sym (ones-none (length entries)));
     })
 
 pub returns-clause-places : goal.returns-clause-places
 returns-clause-places c = c.take_each.ensures.places
 
 pub returns-clause-taken : goal.returns-clause-taken
-returns-clause-taken c = rw (lists (goal.at.returns-clause-taken c).In_ok-kept) at c.take_each.ensures.taken
+returns-clause-taken c = rw (lists (goal.at.returns-clause-taken c).In_ok-kept) at
+    c.take_each.ensures.taken

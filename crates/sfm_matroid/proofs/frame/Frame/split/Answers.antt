@@ -13,10 +13,12 @@ use Rattle.sfm_matroid.proofs.frame.Frame.split.Goals as goal
 framed : (c : In_ok-kept) → IsFrame c.args.self.now c.in_ok-kept.kept.demand
 framed c = rw c.in_ok-kept.ensures c.none-none.ensures.frame
 
-held : (c : In_ok-kept) → c.in_ok-capacities.capacities.items ≡ replicate (length c.in_ok-kept.kept.demand.capacities) c.args.most
+held : (c : In_ok-kept) → c.in_ok-capacities.capacities.items ≡ replicate
+    (length c.in_ok-kept.kept.demand.capacities) c.args.most
 held c =
     let fm : FitsSigned w128 c.args.most = c.ranges.most in
-    let h : c.in_ok-capacities.capacities.items ≡ replicate (length c.capacities-slots.result.now) c.args.most = search rules in
+    let h : c.in_ok-capacities.capacities.items ≡ replicate (length c.capacities-slots.result.now)
+    c.args.most = search rules in
     rw (c.in_ok-kept.ensures, ← c.capacities-slots.ensures) h
 
 pub bring_split-requires : goal.bring_split-requires
@@ -37,5 +39,12 @@ pub returns : goal.returns
 returns c =
     let at = (goal.at.returns c).In_ok-kept in
     let d = c.in_ok-kept.kept.demand in
-    let is = rw (frame_lists c.args.self.now d (framed at), c.deref.ensures.value, held at) at c.in_ok-bring_split.ensures in
-    record { m = length d.capacities; below = (framed at).below; holds = held at; split = is; spare = λ k some. absurd (none-some k some) }
+    let is = rw (frame_lists c.args.self.now d (framed at), c.deref.ensures.value, held at) at
+    c.in_ok-bring_split.ensures in
+    record {
+      m = length d.capacities;
+      below = (framed at).below;
+      holds = held at;
+      split = is;
+      spare = λ k some. absurd (none-some k some);
+    }

@@ -12,13 +12,16 @@ pub raise-requires-clause-raise : goal.raise-requires-clause-raise
 raise-requires-clause-raise c = c.requires.raise
 
 pub raise-requires-clause-beside : goal.raise-requires-clause-beside
-raise-requires-clause-beside c = let (k, is, beside) = c.in_ok-fill.ensures in rw (same_Some _ _ (sym is ∙ c.in-Some.is)) at beside
+raise-requires-clause-beside c =
+    let (k, is, beside) = c.in_ok-fill.ensures in rw (same_Some _ _ (sym is ∙ c.in-Some.is)) at
+    beside
 
 pub raise-requires-clause-held : goal.raise-requires-clause-held
 raise-requires-clause-held c = c.requires.held
 
 pub unreachable-requires : goal.unreachable-requires
-unreachable-requires c = let (k, is, beside) = c.in_ok-fill.ensures in none-some k (sym c.in-None.is ∙ is)
+unreachable-requires c = let (k, is, beside) = c.in_ok-fill.ensures in none-some k
+    (sym c.in-None.is ∙ is)
 
 pub returns-clause-most : goal.returns-clause-most
 returns-clause-most c =
@@ -30,4 +33,5 @@ returns-clause-spare c =
     let p = c.args.pull.now in
     let d = c.args.self.now.kept.demand in
     let grown = grown_beside d c.args.x.now p.v c.args.held.now p.u _ c.requires.held in
-    spare_there (record { kept = c.args.self.now.kept; spare = Some c.raise.new.second }) _ refl (rw c.in_ok-most-in-Some.ensures.grown grown)
+    spare_there (record { kept = c.args.self.now.kept; spare = Some c.raise.new.second }) _ refl
+    (rw c.in_ok-most-in-Some.ensures.grown grown)

@@ -13,10 +13,29 @@ one : {A : Type 0} → IsProp A → (a b : A) → a ≡ b
 one prop a b = prop a b
 
 -- a term is told by its parts
-same : (s : Transversal) (places : List ℕ) (w : ℤ) (entries : List (List ℕ)) (basis : List Bool) (frame : List (List ℕ)) → places ≡ s.places → w ≡ s.w → entries ≡ s.entries → basis ≡ s.basis → frame ≡ s.frame
-    → (elements : AreElements places) (few : length places ≤ 256) (low : pos 0 ≤ℤ w) (given : IsGiven w) (same_count : length entries ≡ length places) (based : basis ≡ transversal_basis entries) (framed : frame ≡ entries)
-    → (let r : Transversal = record { places = places; w = w; entries = entries; basis = basis; frame = frame; elements = elements; few = few; low = low; given = given; same_count = same_count; based = based; framed = framed } in r) ≡ s
-same s places w entries basis frame hp hw he hb hf = rw (hp, hw, he, hb, hf) (λ elements few low given same_count based framed.
+same : (s : Transversal) (places : List ℕ) (w : ℤ) (entries : List (List ℕ)) (basis : List Bool)
+    (frame : List (List ℕ)) → places ≡ s.places → w ≡ s.w → entries ≡ s.entries → basis ≡ s.basis
+    → frame ≡ s.frame
+    → (elements : AreElements places) (few : length places ≤ 256) (low : pos 0 ≤ℤ w)
+    (given : IsGiven w) (same_count : length entries ≡ length places)
+    (based : basis ≡ transversal_basis entries) (framed : frame ≡ entries)
+    → (let r : Transversal = record {
+      places = places;
+      w = w;
+      entries = entries;
+      basis = basis;
+      frame = frame;
+      elements = elements;
+      few = few;
+      low = low;
+      given = given;
+      same_count =
+          same_count;
+      based = based;
+      framed = framed;
+    } in r) ≡ s
+same s places w entries basis frame hp hw he hb hf =
+    rw (hp, hw, he, hb, hf) (λ elements few low given same_count based framed.
     let e : elements ≡ s.elements = one (hlevel props) elements s.elements in
     let f : few ≡ s.few = one (hlevel props) few s.few in
     let l : low ≡ s.low = one (hlevel props) low s.low in
@@ -29,4 +48,6 @@ same s places w entries basis frame hp hw he hb hf = rw (hp, hw, he, hb, hf) (λ
 pub returns : goal.returns
 returns c =
     let s = c.args.self.now in
-    same s _ _ _ _ _ (c.in_ok-places.ensures ∙ c.as_slice.ensures) (to_z-of_z w128 s.w (given_fits s.w s.given)) c.in_ok-entries.ensures c.in_ok-basis.ensures c.in_ok-frame.ensures _ _ _ _ _ _ _
+    same s _ _ _ _ _ (c.in_ok-places.ensures ∙ c.as_slice.ensures)
+    (to_z-of_z w128 s.w (given_fits s.w s.given)) c.in_ok-entries.ensures c.in_ok-basis.ensures
+    c.in_ok-frame.ensures _ _ _ _ _ _ _

@@ -8,19 +8,23 @@ use Rattle.sfm_matroid.proofs.Passed.{given_passed, low_passed}
 use Rattle.sfm_matroid.proofs.transversal.Transversal.new.Goals as goal
 
 pub invariant_of-result-clause-few : goal.invariant_of-result-clause-few
-invariant_of-result-clause-few c = rw c.in_ok-places.ensures (placed_few 256 c.args.elements.now c.requires.elements.placed)
+invariant_of-result-clause-few c =
+    rw c.in_ok-places.ensures (placed_few 256 c.args.elements.now c.requires.elements.placed)
 
 pub invariant_of-result-clause-same_count : goal.invariant_of-result-clause-same_count
-invariant_of-result-clause-same_count c = c.requires.same_count ∙ ap length (sym c.in_ok-places.ensures)
+invariant_of-result-clause-same_count c = c.requires.same_count
+    ∙ ap length (sym c.in_ok-places.ensures)
 
 pub invariant_of-result-clause-based : goal.invariant_of-result-clause-based
-invariant_of-result-clause-based c = c.in_ok-basis.ensures ∙ ap transversal_basis c.in_ok-frame.ensures
+invariant_of-result-clause-based c = c.in_ok-basis.ensures
+    ∙ ap transversal_basis c.in_ok-frame.ensures
 
 pub invariant_of-result-clause-framed : goal.invariant_of-result-clause-framed
 invariant_of-result-clause-framed c = c.in_ok-frame.ensures
 
 pub of-requires : goal.of-requires
-of-requires c = let h = placed_few 256 c.args.elements.now c.requires.elements.placed in omega (arith, h, c.requires.same_count)
+of-requires c = let h = placed_few 256 c.args.elements.now
+    c.requires.elements.placed in omega (arith, h, c.requires.same_count)
 
 pub invariant_of-result-clause-elements : goal.invariant_of-result-clause-elements
 invariant_of-result-clause-elements c = rw c.in_ok-places.ensures c.requires.elements

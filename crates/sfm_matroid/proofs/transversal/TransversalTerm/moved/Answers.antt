@@ -14,13 +14,17 @@ use Rattle.sfm_matroid.proofs.transversal.TransversalTerm.moved.Goals.{After-der
 use Rattle.sfm_matroid.proofs.transversal.TransversalTerm.moved.Goals as goal
 
 -- what the split is brought to, and what is there for it
-record IsBrought (entries : List (List ℕ)) (m : ℕ) (c : ℤ) (x y demands capacities : List ℤ) (pair : SplitPair) : Type 0 where
+record IsBrought (entries : List (List ℕ)) (m : ℕ) (c : ℤ) (x y demands capacities : List ℤ)
+    (pair : SplitPair) : Type 0 where
   base : IsHeldBase entries m c y
   demands_are : demands ≡ y
   capacities_are : capacities ≡ replicate m c
   over : IsBeside (slot_demands entries m c x) pair.kept.demand
 
-brought : (c : After-deref-2) → IsBrought c.args.self.now.entries c.requires.noted.m (c.args.at.now.q *ℤ c.args.self.now.w) c.args.at.now.x.now (exchanged c.args.at.now.x.now c.args.swap.now.u c.args.swap.now.v c.args.swap.now.a) c.deref.result.now c.deref-2.result.now c.swap.new.self
+brought : (c : After-deref-2) → IsBrought c.args.self.now.entries c.requires.noted.m
+    (c.args.at.now.q *ℤ c.args.self.now.w) c.args.at.now.x.now
+    (exchanged c.args.at.now.x.now c.args.swap.now.u c.args.swap.now.v c.args.swap.now.a)
+    c.deref.result.now c.deref-2.result.now c.swap.new.self
 brought c =
     let r = c.requires in
     let b = r.based in
@@ -28,7 +32,9 @@ brought c =
     let n = r.noted in
     let at = c.args.at.now in
     record {
-      base = held_base c.args.self.now at.q n.m n.below b.factor _ (length-exchanged at.x.now _ _ _ ∙ b.entries) (base_within_room _ b.base can.from can.onto can.apart can.low can.room);
+      base = held_base c.args.self.now at.q n.m n.below b.factor _
+          (length-exchanged at.x.now _ _ _ ∙ b.entries)
+          (base_within_room _ b.base can.from can.onto can.apart can.low can.room);
       demands_are = c.deref.ensures.value ∙ c.in_ok-after.ensures;
       capacities_are = c.deref-2.ensures.value ∙ n.holds;
       over = rw n.split at c.swap.ensures.kept;
@@ -39,22 +45,32 @@ moved-requires c =
     let r = c.requires in
     let s = c.args.self.now in
     let at = c.args.at.now in
-    can_move (length s.places) _ _ (λ y sized base. (held_base s at.q r.noted.m r.noted.below r.based.factor y sized base).capped) at.x.now r.based.entries r.based.base _ _ _ r.can
+    can_move (length s.places) _ _
+    (λ y sized base. (held_base s at.q r.noted.m r.noted.below r.based.factor y sized
+    base).capped) at.x.now r.based.entries r.based.base _ _ _ r.can
 
 pub bring_split-requires-clause-amounts : goal.bring_split-requires-clause-amounts
-bring_split-requires-clause-amounts c = let h = brought c in rw h.demands_are (capped_amounts _ _ h.base.capped)
+bring_split-requires-clause-amounts c =
+    let h = brought c in rw h.demands_are (capped_amounts _ _ h.base.capped)
 
 pub bring_split-requires-clause-bounded : goal.bring_split-requires-clause-bounded
 bring_split-requires-clause-bounded c = let h = brought c in rw h.capacities_are h.base.bounded
 
 pub bring_split-requires-clause-met : goal.bring_split-requires-clause-met
-bring_split-requires-clause-met c = let h = brought c in rw (h.demands_are, h.over.lists, h.capacities_are) h.base.met
+bring_split-requires-clause-met c =
+    let h = brought c in rw (h.demands_are, h.over.lists, h.capacities_are) h.base.met
 
 pub returns : goal.returns
 returns c =
     let s = c.args.self.now in
     let n = c.requires.noted in
     let h = brought (goal.at.returns c).After-deref-2 in
-    let note : SlotSplit = record { pair = record { kept = c.bring_split.new.kept; spare = c.swap.new.self.spare }; capacities = c.args.note.now.capacities } in
+    let note : SlotSplit = record {
+      pair = record { kept = c.bring_split.new.kept; spare = c.swap.new.self.spare };
+      capacities =
+          c.args.note.now.capacities;
+    } in
     let at = c.args.at.now in
-    slots_moved s.entries n.m (at.q *ℤ s.w) n.below at.x.now _ (length-exchanged at.x.now _ _ _) c.swap.new.self h.over c.swap.ensures.spare note c.bring_split.result n.holds refl (rw (h.demands_are, h.over.lists, h.capacities_are) at c.bring_split.ensures)
+    slots_moved s.entries n.m (at.q *ℤ s.w) n.below at.x.now _ (length-exchanged at.x.now _ _ _)
+    c.swap.new.self h.over c.swap.ensures.spare note c.bring_split.result n.holds refl
+    (rw (h.demands_are, h.over.lists, h.capacities_are) at c.bring_split.ensures)

@@ -11,5 +11,11 @@ returns-clause-reached c =
     let n = r.noted in
     let s = c.args.self.now in
     let at = c.args.at.now in
-    let row = rw (n.split, cap_passed at.q s.w b.factor s.given c.cap_of-cap.result c.cap_of-cap.ensures.value) at c.in_ok-row.ensures.row in
-    reach_slots (length s.places) at.q s.w s.entries n.m n.below s.same_count (product_low at.q s.w b.factor s.low) at.x.now b.entries b.base c.args.lead.now.from r.from c.row.new.to c.in_ok-row.ensures.places row
+    let row = rw (
+      n.split,
+      cap_passed at.q s.w b.factor s.given c.cap_of-cap.result
+          c.cap_of-cap.ensures.value,
+    ) at c.in_ok-row.ensures.row in
+    reach_slots (length s.places) at.q s.w s.entries n.m n.below s.same_count
+    (product_low at.q s.w b.factor s.low) at.x.now b.entries b.base c.args.lead.now.from r.from
+    c.row.new.to c.in_ok-row.ensures.places row

@@ -16,6 +16,11 @@ returns-clause-room c =
     let at = c.args.at.now in
     let n = c.in_ok-note.ensures in
     let fm : FitsSigned w128 c.in_ok-most.most = search rules in
-    let fv : FitsSigned w128 (get_or at.x.now c.args.v (pos 0)) = amount_fits _ (All-get_or IsAmount at.x.now c.args.v (pos 0) pair.onto (capped_amounts _ at.x.now ((held_base s at.q n.m n.below b.factor at.x.now b.entries b.base).capped))) in
+    let fv : FitsSigned w128 (get_or at.x.now c.args.v (pos 0)) = amount_fits _
+    (All-get_or IsAmount at.x.now c.args.v (pos 0) pair.onto
+    (capped_amounts _ at.x.now
+    ((held_base s at.q n.m n.below b.factor at.x.now b.entries b.base).capped))) in
     let most = simp to_z-of_z at c.in_ok-most.ensures.room in
-    simp to_z-of_z (split_room (length s.places) at.q s.w s.entries n.m n.below s.same_count (product_low at.q s.w b.factor s.low) at.x.now b.entries b.base c.args.u c.args.v pair.from pair.onto pair.apart _ most)
+    simp to_z-of_z (split_room (length s.places) at.q s.w s.entries n.m n.below s.same_count
+    (product_low at.q s.w b.factor s.low) at.x.now b.entries b.base c.args.u c.args.v pair.from
+    pair.onto pair.apart _ most)

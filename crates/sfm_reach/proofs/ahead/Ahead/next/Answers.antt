@@ -9,7 +9,8 @@ use Rattle.sfm_reach.proofs.ahead.Ahead.next.Goals as goal
 pub loop-word-preserved : goal.loop-word-preserved
 loop-word-preserved c = (
   omega (arith, c.loop-word.invariant.0, c.if-k-eq3.false),
-  (λ e. left_next c.self.inside.places.now c.loop-word.k e ∙ rw c.loop-word-test.true at (c.loop-word.invariant.1 e)),
+  (λ e. left_next c.self.inside.places.now c.loop-word.k e
+      ∙ rw c.loop-word-test.true at (c.loop-word.invariant.1 e)),
 )
 
 pub returns-then-k-eq3 : goal.returns-then-k-eq3
@@ -23,7 +24,10 @@ returns c =
     let s = c.self.inside.places.now in
     let k = c.loop-word.k in
     let w = c.loop-word.word in
-    let (low, one, least) = bit_at-trailing_zeros w64 w (omega (arith, c.loop-word-test.false)) (omega (arith, c.loop-word.auto.word-fits)) in
-    let same : (e : ℕ) → bit_in (left_of s k w) e ≡ bit_in c.args.self.now e = λ e. c.loop-word.invariant.1 e ∙ ap (λ s. bit_in s e) c.self.view_is in
+    let (low, one, least) = bit_at-trailing_zeros w64 w (omega (arith, c.loop-word-test.false))
+    (omega (arith, c.loop-word.auto.word-fits)) in
+    let same : (e : ℕ) → bit_in (left_of s k w) e ≡ bit_in c.args.self.now e = λ e.
+    c.loop-word.invariant.1 e ∙ ap (λ s. bit_in s e) c.self.view_is in
     let t = trailing_zeros w64 w in
-    taken_same _ _ _ _ same (left_taken s k w _ t c.loop-word.invariant.0 low one (bit_at_clear_same w64 w t low) (bit_at_clear_other w64 w t low))
+    taken_same _ _ _ _ same (left_taken s k w _ t c.loop-word.invariant.0 low one
+    (bit_at_clear_same w64 w t low) (bit_at_clear_other w64 w t low))

@@ -8,7 +8,8 @@ pub returns : goal.returns
 returns c = λ e.
     let s = c.args.self.now in
     let o = c.args.other.now in
-    let r = made_by_words (λ a b. bit_xor a b) (λ a b. (a + b) % 2) s o e refl (omega arith) (omega arith) bit_at_xor in
+    let r = made_by_words (λ a b. bit_xor a b) (λ a b. (a + b) % 2) s o e refl (omega arith)
+    (omega arith) bit_at_xor in
     let ls = bit_in-lt s e in
     let lo = bit_in-lt o e in
     ((λ none. omega (arith, none, r, ls, lo)), (λ same. omega (arith, same, r, ls, lo)))

@@ -5,7 +5,9 @@ use Rattle.sfm_reach.proofs.Words.{bit-here, bit-other}
 use Rattle.sfm_reach.proofs.bits.Bits.insert.Goals as goal
 
 pub returns-clause-put : goal.returns-clause-put
-returns-clause-put c = let e = c.args.e in bit-here c.args.self.now _ e _ (omega arith) refl ∙ bit_at_set_same w64 _ (e % 64) (omega arith)
+returns-clause-put c = let e = c.args.e in bit-here c.args.self.now _ e _ (omega arith) refl
+    ∙ bit_at_set_same w64 _ (e % 64) (omega arith)
 
 pub returns-clause-others : goal.returns-clause-others
-returns-clause-others c = let e = c.args.e in λ k ne. bit-other c.args.self.now _ e _ (omega arith) refl k ne (λ apart. bit_at_set_other w64 _ (e % 64) (omega arith) (k % 64) apart)
+returns-clause-others c = let e = c.args.e in λ k ne. bit-other c.args.self.now _ e _ (omega arith)
+    refl k ne (λ apart. bit_at_set_other w64 _ (e % 64) (omega arith) (k % 64) apart)

@@ -5,4 +5,5 @@ use Rattle.sfm_reach.proofs.Words.{made_by_words}
 use Rattle.sfm_reach.proofs.bits.Bits.meet_with.Goals as goal
 
 pub returns : goal.returns
-returns c = λ e. made_by_words (λ a b. bit_and a b) (λ a b. min a b) c.args.self.now c.args.other.now e refl (omega arith) (omega arith) bit_at_and
+returns c = λ e. made_by_words (λ a b. bit_and a b) (λ a b. min a b) c.args.self.now
+    c.args.other.now e refl (omega arith) (omega arith) bit_at_and

@@ -14,4 +14,5 @@ lost x y t =
     omega (arith, w, i, lx, ly)
 
 pub returns : goal.returns
-returns c = λ e. made_by_words (λ a b. bit_xor a (bit_and a b)) (λ a b. a - b) c.args.self.now c.args.other.now e refl (omega arith) (omega arith) lost
+returns c = λ e. made_by_words (λ a b. bit_xor a (bit_and a b)) (λ a b. a - b) c.args.self.now
+    c.args.other.now e refl (omega arith) (omega arith) lost

@@ -12,6 +12,9 @@ returns c =
     let none = c.no_bits.ensures in
     record {
       count = ap length is ∙ length-replicate n false;
-      exact = λ e. ((λ one. let z = none e in absurd (omega (arith, z, one))), (λ (v, lv, has, same). absurd (false≢true (sym (none_in_empty n v) ∙ (rw is at has)))));
+      exact = λ e. (
+        (λ one. let z = none e in absurd (omega (arith, z, one))),
+        (λ (v, lv, has, same). absurd (false≢true (sym (none_in_empty n v) ∙ (rw is at has)))),
+      );
       order = c.are_in_order.ensures.0;
     }

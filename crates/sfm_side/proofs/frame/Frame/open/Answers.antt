@@ -7,12 +7,15 @@ use Rattle.sfm_side.proofs.frame.Frame.open.Goals as goal
 pub returns-in_default-clause-refused : goal.returns-in_default-clause-refused
 returns-in_default-clause-refused c =
     let whole = c.in_default.ensures.text ∙ c.new-lines.ensures.text in
-    is_empty c.if-text-gt-TEXT_LIMIT.false (sym c.new-lines.ensures.content ∙ c.in_default.ensures.next)
-    (c.number.ensures ∙ (c.in_default.ensures.end ∙ ap (λ (text : List ℕ). length (lines_of text) + 1) whole)) refl
+    is_empty c.if-text-gt-TEXT_LIMIT.false
+    (sym c.new-lines.ensures.content ∙ c.in_default.ensures.next)
+    (c.number.ensures ∙ (c.in_default.ensures.end
+    ∙ ap (λ (text : List ℕ). length (lines_of text) + 1) whole)) refl
 
 pub returns-in-Some-header_reason-clause-refused : goal.returns-in-Some-header_reason-clause-refused
 returns-in-Some-header_reason-clause-refused c =
-    is_header c.if-text-gt-TEXT_LIMIT.false c.in-Some.first.bytes.now (content_left c.next_content.new.self)
+    is_header c.if-text-gt-TEXT_LIMIT.false c.in-Some.first.bytes.now
+    (content_left c.next_content.new.self)
     (sym c.new-lines.ensures.content ∙ c.in-Some.ensures.next) c.in-Some-header_reason.ensures
 
 pub returns-clause-opened : goal.returns-clause-opened

@@ -21,8 +21,13 @@ returns-then-none_negative c =
     let counts = c.if-none_negative.ensures.0 refl in
     let p = simp to_z-of_z at c.product.ensures in
     let i = simp to_z-of_z at (rw p at c.has_sum.ensures) in (
-      (λ t. cover_base c.args.q s.w x some (record { counts = λ e lt. All-get_or (λ a. pos 0 ≤ℤ a) x e (pos 0) lt counts; sum = sym (total_of-whole x) ∙ i.0 t })),
-      (λ b. i.1 (total_of-whole x ∙ (cover_base_back c.args.q s.w x r.factor.low s.low some b).sum)),
+      (λ t. cover_base c.args.q s.w x some
+          (record {
+            counts = λ e lt. All-get_or (λ a. pos 0 ≤ℤ a) x e (pos 0) lt counts;
+            sum = sym (total_of-whole x) ∙ i.0 t;
+          })),
+      (λ b. i.1 (total_of-whole x ∙ (cover_base_back c.args.q s.w x r.factor.low s.low some
+          b).sum)),
     )
 
 pub returns-else-none_negative : goal.returns-else-none_negative
@@ -32,5 +37,7 @@ returns-else-none_negative c =
     let x = c.args.x.now in
     let some : 0 < length x = omega (arith, r.entries, s.elements.some) in (
       (λ t. absurd (both_ways c.none_negative.result c.if-none_negative.false t)),
-      (λ b. let h = cover_base_back c.args.q s.w x r.factor.low s.low some b in c.none_negative.ensures.1 (λ k d lt. rw (get_or_default x k d (pos 0) lt) (h.counts k lt))),
+      (λ b. let h = cover_base_back c.args.q s.w x r.factor.low s.low some
+          b in c.none_negative.ensures.1
+          (λ k d lt. rw (get_or_default x k d (pos 0) lt) (h.counts k lt))),
     )

@@ -7,4 +7,5 @@ returns-clause-reached c =
     let r = c.requires in
     let s = c.args.self.now in
     let put = c.put_others_over.ensures in
-    cover-reach c.args.at.now.q s.w r.factor.low s.low c.args.at.now.x.now r.base c.args.u r.from c.put_others_over.new.to (put.places ∙ r.room_for_answer) put.over
+    cover-reach c.args.at.now.q s.w r.factor.low s.low c.args.at.now.x.now r.base c.args.u r.from
+    c.put_others_over.new.to (put.places ∙ r.room_for_answer) put.over

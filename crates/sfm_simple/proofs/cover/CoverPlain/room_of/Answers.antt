@@ -12,5 +12,7 @@ returns c =
     let r = c.requires in
     let s = c.args.self.now in
     let x = c.args.at.now.x.now in
-    let f : FitsSigned w128 (get_or x c.args.v (pos 0)) = entry_fits _ (All-get_or IsEntry x c.args.v (pos 0) r.onto r.small) in
-    simp to_z-of_z (cover-capacity c.args.at.now.q s.w r.factor.low s.low x r.base c.args._u c.args.v r.from r.onto r.apart)
+    let f : FitsSigned w128 (get_or x c.args.v (pos 0)) = entry_fits _
+    (All-get_or IsEntry x c.args.v (pos 0) r.onto r.small) in
+    simp to_z-of_z (cover-capacity c.args.at.now.q s.w r.factor.low s.low x r.base c.args._u
+    c.args.v r.from r.onto r.apart)

@@ -19,10 +19,18 @@ returns-then-u-eq0 c =
     let v : c.args._v ≡ 1 = omega (arith, two, u) in
     let fq : FitsSigned w128 c.args.at.now.q = factor_fits _ c.requires.factor in
     let fc : FitsSigned w128 s.c = given_fits _ s.given in
-    let f0 : FitsSigned w128 (get_or x 0 (pos 0)) = entry_fits _ (All-get_or IsEntry x 0 (pos 0) (omega (arith, two)) r.small) in
-    let fm : FitsSigned w128 (c.args.at.now.q *ℤ s.c) = product_fits _ _ r.factor (given_more _ s.given) in
+    let f0 : FitsSigned w128 (get_or x 0 (pos 0)) = entry_fits _
+    (All-get_or IsEntry x 0 (pos 0) (omega (arith, two)) r.small) in
+    let fm : FitsSigned w128 (c.args.at.now.q *ℤ s.c) = product_fits _ _ r.factor
+    (given_more _ s.given) in
     let h = cut_base_back c.args.at.now.q s.c x two r.base in
-    let fd : FitsSigned w128 ((c.args.at.now.q *ℤ s.c) -ℤ get_or x 0 (pos 0)) = omega (arith, ints, h.low, h.high, fm) in
+    let fd : FitsSigned w128 ((c.args.at.now.q *ℤ s.c) -ℤ get_or x 0 (pos 0)) = omega (
+      arith,
+      ints,
+      h.low,
+      h.high,
+      fm,
+    ) in
     let p = simp to_z-of_z at c.product.ensures in
     rw (u, v, p) (simp to_z-of_z (cut-capacity_up c.args.at.now.q s.c x two r.base))
 
@@ -33,11 +41,14 @@ returns c =
     let two = r.entries ∙ s.two in
     let v : c.args._v ≡ 0 = omega (arith, two) in
     let u : c.args.u ≡ 1 = omega (arith, two) in
-    let f0 : FitsSigned w128 (get_or c.args.at.now.x.now 0 (pos 0)) = entry_fits _ (All-get_or IsEntry c.args.at.now.x.now 0 (pos 0) (omega (arith, two)) r.small) in
-    rw (u, v) (simp to_z-of_z (cut-capacity_down c.args.at.now.q s.c c.args.at.now.x.now two r.base))
+    let f0 : FitsSigned w128 (get_or c.args.at.now.x.now 0 (pos 0)) = entry_fits _
+    (All-get_or IsEntry c.args.at.now.x.now 0 (pos 0) (omega (arith, two)) r.small) in
+    rw (u, v) (simp to_z-of_z (cut-capacity_down c.args.at.now.q s.c c.args.at.now.x.now two
+    r.base))
 
 pub product-requires-clause-factor : goal.product-requires-clause-factor
-product-requires-clause-factor c = let fq : FitsSigned w128 c.args.at.now.q = factor_fits _ c.requires.factor in simp to_z-of_z c.requires.factor
+product-requires-clause-factor c = let fq : FitsSigned w128 c.args.at.now.q = factor_fits _
+    c.requires.factor in simp to_z-of_z c.requires.factor
 
 pub product-requires-clause-given : goal.product-requires-clause-given
 product-requires-clause-given c =
@@ -52,9 +63,17 @@ overflow_sub-result c =
     let two = r.entries ∙ s.two in
     let fq : FitsSigned w128 c.args.at.now.q = factor_fits _ c.requires.factor in
     let fc : FitsSigned w128 s.c = given_fits _ s.given in
-    let f0 : FitsSigned w128 (get_or x 0 (pos 0)) = entry_fits _ (All-get_or IsEntry x 0 (pos 0) (omega (arith, two)) r.small) in
-    let fm : FitsSigned w128 (c.args.at.now.q *ℤ s.c) = product_fits _ _ r.factor (given_more _ s.given) in
+    let f0 : FitsSigned w128 (get_or x 0 (pos 0)) = entry_fits _
+    (All-get_or IsEntry x 0 (pos 0) (omega (arith, two)) r.small) in
+    let fm : FitsSigned w128 (c.args.at.now.q *ℤ s.c) = product_fits _ _ r.factor
+    (given_more _ s.given) in
     let h = cut_base_back c.args.at.now.q s.c x two r.base in
-    let fd : FitsSigned w128 ((c.args.at.now.q *ℤ s.c) -ℤ get_or x 0 (pos 0)) = omega (arith, ints, h.low, h.high, fm) in
+    let fd : FitsSigned w128 ((c.args.at.now.q *ℤ s.c) -ℤ get_or x 0 (pos 0)) = omega (
+      arith,
+      ints,
+      h.low,
+      h.high,
+      fm,
+    ) in
     let p = simp to_z-of_z at c.product.ensures in
     rw p (simp to_z-of_z fd)

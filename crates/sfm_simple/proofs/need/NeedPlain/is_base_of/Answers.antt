@@ -11,7 +11,11 @@ pub returns : goal.returns
 returns c =
     let x = c.args.x.now in
     let two = c.requires.entries ∙ c.args.self.now.two in
-    let f0 : FitsSigned w128 (get_or x 0 (pos 0)) = entry_fits _ (All-get_or IsEntry x 0 (pos 0) (omega (arith, two)) c.requires.small) in
-    let f1 : FitsSigned w128 (get_or x 1 (pos 0)) = entry_fits _ (All-get_or IsEntry x 1 (pos 0) (omega (arith, two)) c.requires.small) in
-    let i = simp to_z-of_z at c.are_opposite.ensures in
-    ((λ t. need_base c.args._q x two (i.0 t).0 (i.0 t).1), (λ b. i.1 (need_base_back c.args._q x two b)))
+    let f0 : FitsSigned w128 (get_or x 0 (pos 0)) = entry_fits _
+    (All-get_or IsEntry x 0 (pos 0) (omega (arith, two)) c.requires.small) in
+    let f1 : FitsSigned w128 (get_or x 1 (pos 0)) = entry_fits _
+    (All-get_or IsEntry x 1 (pos 0) (omega (arith, two)) c.requires.small) in
+    let i = simp to_z-of_z at c.are_opposite.ensures in (
+      (λ t. need_base c.args._q x two (i.0 t).0 (i.0 t).1),
+      (λ b. i.1 (need_base_back c.args._q x two b)),
+    )

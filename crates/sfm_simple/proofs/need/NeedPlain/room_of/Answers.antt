@@ -13,7 +13,10 @@ returns-then-u-eq0 c =
     let two = r.entries ∙ c.args.self.now.two in
     let u : c.args.u ≡ 0 = c.if-u-eq0.true in
     let v : c.args._v ≡ 1 = omega (arith, two, u) in
-    rw (u, v) (need-uncapped c.args.at.now.q c.args.at.now.x.now two r.base, need-unsplit c.args.at.now.q (length c.args.at.now.x.now))
+    rw (u, v) (
+      need-uncapped c.args.at.now.q c.args.at.now.x.now two r.base,
+      need-unsplit c.args.at.now.q (length c.args.at.now.x.now),
+    )
 
 pub returns : goal.returns
 returns c =
@@ -21,5 +24,6 @@ returns c =
     let two = r.entries ∙ c.args.self.now.two in
     let v : c.args._v ≡ 0 = omega (arith, two) in
     let u : c.args.u ≡ 1 = omega (arith, two) in
-    let f0 : FitsSigned w128 (get_or c.args.at.now.x.now 0 (pos 0)) = entry_fits _ (All-get_or IsEntry c.args.at.now.x.now 0 (pos 0) (omega (arith, two)) r.small) in
+    let f0 : FitsSigned w128 (get_or c.args.at.now.x.now 0 (pos 0)) = entry_fits _
+    (All-get_or IsEntry c.args.at.now.x.now 0 (pos 0) (omega (arith, two)) r.small) in
     rw (u, v) (simp to_z-of_z (need-capacity c.args.at.now.q c.args.at.now.x.now two r.base))

@@ -31,6 +31,8 @@ returns c =
     let fa : FitsSigned w128 c.scaled.result = record { sfits = c.scaled.type_inv } in
     let fb : FitsSigned w128 c.scaled-2.result = record { sfits = c.scaled-2.type_inv } in
     let fd = difference_fits _ _ c.scaled.ensures.1 (at_most_more _ c.scaled-2.ensures.1) in
-    let after = (simp to_z-of_z at c.scaled.ensures.0) ∙ ap (λ n. q *ℤ get_or values (n - 1) (pos 0)) c.unit.ensures in
-    let before = (simp to_z-of_z at c.scaled-2.ensures.0) ∙ ap (λ n. q *ℤ get_or values (n - 1) (pos 0)) c.unit-2.ensures in
+    let after = (simp to_z-of_z at c.scaled.ensures.0)
+    ∙ ap (λ n. q *ℤ get_or values (n - 1) (pos 0)) c.unit.ensures in
+    let before = (simp to_z-of_z at c.scaled-2.ensures.0)
+    ∙ ap (λ n. q *ℤ get_or values (n - 1) (pos 0)) c.unit-2.ensures in
     simp to_z-of_z (rw (after, before) (sym (times-sub q _ _)))

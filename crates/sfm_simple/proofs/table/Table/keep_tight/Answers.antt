@@ -20,15 +20,19 @@ loop-s-preserved c =
     elim c.if-is_tight_with.branch [
       | then-is_tight_with w ↦
           (let kept : List Bool = members (length x) s in
-          let e : c.if-is_tight_with.to ≡ intersection to kept = w.to-is ∙ (w.keep_members.ensures ∙ ap (λ k. intersection to (members k s)) sized) in
+          let e : c.if-is_tight_with.to ≡ intersection to kept = w.to-is
+          ∙ (w.keep_members.ensures ∙ ap (λ k. intersection to (members k s)) sized) in
           let t = w.if-is_tight_with.ensures.0 refl in
           record {
-            places = rw e (length-intersection to kept (sized ∙ sym (length-members (length x) s)) ∙ inv.places);
-            kept = λ v. rw e (kept_with q values x c.args.u s v c.args.to.now to sized (inv.kept v) t.0 t.1);
+            places = rw e (length-intersection to kept (sized ∙ sym (length-members (length x) s))
+                ∙ inv.places);
+            kept = λ v. rw e (kept_with q values x c.args.u s v c.args.to.now to sized (inv.kept v)
+                t.0 t.1);
           })
       | else-is_tight_with w ↦
           record {
             places = rw w.to-is inv.places;
-            kept = λ v. rw w.to-is (kept_without q values x c.args.u s v c.args.to.now to (inv.kept v) (λ hu none. false≢true (w.if-is_tight_with.ensures.1 (hu, none))));
+            kept = λ v. rw w.to-is (kept_without q values x c.args.u s v c.args.to.now to
+                (inv.kept v) (λ hu none. false≢true (w.if-is_tight_with.ensures.1 (hu, none))));
           }
     ]

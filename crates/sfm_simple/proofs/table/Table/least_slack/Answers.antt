@@ -25,8 +25,17 @@ loop-s-init c =
     let low = pow_below c.args.u (length s.places) (omega (arith, r.from, r.entries)) in
     let split = unit_split (length x) c.args.u c.args.v r.from r.onto r.apart in
     let f : FitsSigned w128 c.slack-least.result = record { sfits = c.slack-least.type_inv } in
-    let is : c.slack-least.result ≡ slack_of q values x (2 ^ c.args.u) = c.slack-least.ensures ∙ ap (λ n. slack_of q values x n) c.unit.ensures in
-    record { least = λ n h _. absurd (omega arith); reached = (2 ^ c.args.u, omega (arith, low, s.counted), split, to_z-of_z w128 c.slack-least.result f ∙ is) }
+    let is : c.slack-least.result ≡ slack_of q values x (2 ^ c.args.u) = c.slack-least.ensures
+    ∙ ap (λ n. slack_of q values x n) c.unit.ensures in
+    record {
+      least = λ n h _. absurd (omega arith);
+      reached = (
+        2 ^ c.args.u,
+        omega (arith, low, s.counted),
+        split,
+        to_z-of_z w128 c.slack-least.result f ∙ is,
+      );
+    }
 
 pub loop-s-preserved : goal.loop-s-preserved
 loop-s-preserved c =
@@ -42,17 +51,20 @@ loop-s-preserved c =
       | then-splits w ↦
           (let fs : FitsSigned w128 w.slack.result = record { sfits = w.slack.type_inv } in
           let fm : FitsSigned w128 w.min-least.result = record { sfits = w.min-least.type_inv } in
-          let is : to_z w128 c.if-splits.least-bits ≡ w.min-least.result = w.least-is ∙ to_z-of_z w128 w.min-least.result fm in
+          let is : to_z w128 c.if-splits.least-bits ≡ w.min-least.result = w.least-is
+          ∙ to_z-of_z w128 w.min-least.result fm in
           let b = to_z-of_z w128 w.slack.result fs ∙ w.slack.ensures in
           let m = w.min-least.ensures in
           let split = w.if-splits.ensures.0 refl in
           record {
-            least = rw is (least_more q values x u v s _ _ inv.least m.self_bound (λ _. omega (arith, ints, m.other_bound, b)));
+            least = rw is (least_more q values x u v s _ _ inv.least m.self_bound
+                (λ _. omega (arith, ints, m.other_bound, b)));
             reached = rw is (reached_min q values x u v s _ _ _ inv.reached lt split b m.value);
           })
       | else-splits w ↦
           record {
-            least = rw w.least-is (least_more q values x u v s _ _ inv.least (omega (arith, ints)) (λ split. absurd (false≢true (w.if-splits.ensures.1 split))));
+            least = rw w.least-is (least_more q values x u v s _ _ inv.least (omega (arith, ints))
+                (λ split. absurd (false≢true (w.if-splits.ensures.1 split))));
             reached = rw w.least-is inv.reached;
           }
     ]
@@ -61,4 +73,8 @@ pub returns : goal.returns
 returns c =
     let fq : FitsSigned w128 c.args.q = c.ranges.q in
     let inv = simp to_z-of_z at c.loop-s.invariant in
-    record { least = λ n h. inv.least n (omega (arith, h, c.loop-s-test.false, c.count-s-end.ensures)); reached = inv.reached }
+    record {
+      least = λ n h. inv.least n
+          (omega (arith, h, c.loop-s-test.false, c.count-s-end.ensures));
+      reached = inv.reached;
+    }

@@ -22,13 +22,16 @@ pub invariant_of-result-clause-given : goal.invariant_of-result-clause-given
 invariant_of-result-clause-given c = rw c.in_ok-values.ensures c.requires.given
 
 pub invariant_of-result-clause-topped : goal.invariant_of-result-clause-topped
-invariant_of-result-clause-topped c = told_of_kept greatest c.greatest_magnitude-most.result _ _ (record { sfits = c.greatest_magnitude-most.type_inv }) c.greatest_magnitude-most.ensures c.in_ok-values.ensures
+invariant_of-result-clause-topped c = told_of_kept greatest c.greatest_magnitude-most.result _ _
+    (record { sfits = c.greatest_magnitude-most.type_inv }) c.greatest_magnitude-most.ensures
+    c.in_ok-values.ensures
 
 pub invariant_of-result-clause-elements : goal.invariant_of-result-clause-elements
 invariant_of-result-clause-elements c = rw c.in_ok-places.ensures c.requires.elements
 
 pub invariant_of-result-clause-counted : goal.invariant_of-result-clause-counted
-invariant_of-result-clause-counted c = rw (c.in_ok-places.ensures, c.in_ok-values.ensures) c.requires.counted
+invariant_of-result-clause-counted c =
+    rw (c.in_ok-places.ensures, c.in_ok-values.ensures) c.requires.counted
 
 from_bits : (a : ℤ) → IsGiven a → of_z w128 a ≡ 0 → a ≡ pos 0
 from_bits a h z = omega (arith, ints, z)
@@ -36,6 +39,12 @@ from_bits a h z = omega (arith, ints, z)
 pub invariant_of-result-clause-lawful : goal.invariant_of-result-clause-lawful
 invariant_of-result-clause-lawful c =
     let values = c.args.values.now in
-    let some : 0 < length values = omega (arith, c.requires.counted, pow_pos (length c.args.elements.now)) in
-    let zero = from_bits (get_or values 0 (pos 0)) (All-get_or IsGiven values 0 (pos 0) some c.requires.given) c.if-values-ne0.false in
-    rw (c.in_ok-places.ensures, c.in_ok-values.ensures) (table-submodular (length c.args.elements.now) values zero c.in_default.ensures)
+    let some : 0 < length values = omega (
+      arith,
+      c.requires.counted,
+      pow_pos (length c.args.elements.now),
+    ) in
+    let zero = from_bits (get_or values 0 (pos 0))
+    (All-get_or IsGiven values 0 (pos 0) some c.requires.given) c.if-values-ne0.false in
+    rw (c.in_ok-places.ensures, c.in_ok-values.ensures)
+    (table-submodular (length c.args.elements.now) values zero c.in_default.ensures)

@@ -9,6 +9,10 @@ returns c =
     let given = c.listed.ensures.given in
     let fq : FitsSigned w128 c.args.q = c.ranges.q in
     let fn : FitsSigned w128 c.listed.result = given_fits _ given in
-    let fp : FitsSigned w128 (c.args.q *ℤ c.listed.result) = product_fits _ _ c.requires.factor (given_more _ given) in
+    let fp : FitsSigned w128 (c.args.q *ℤ c.listed.result) = product_fits _ _ c.requires.factor
+    (given_more _ given) in
     let p = simp to_z-of_z at c.product.ensures in
-    rw p (simp to_z-of_z (ap (λ a. c.args.q *ℤ a) c.listed.ensures.value, product_small _ _ c.requires.factor (given_more _ given)))
+    rw p (simp to_z-of_z (
+      ap (λ a. c.args.q *ℤ a) c.listed.ensures.value,
+      product_small _ _ c.requires.factor (given_more _ given),
+    ))

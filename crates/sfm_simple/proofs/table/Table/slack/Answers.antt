@@ -17,4 +17,6 @@ returns c =
     let fs : FitsSigned w128 c.sum_at.result = record { sfits = c.sum_at.type_inv } in
     let fd = slack_fits _ _ c.scaled.ensures.1 c.sum_at.ensures.small in
     let value = simp to_z-of_z at c.scaled.ensures.0 in
-    simp to_z-of_z (ap (λ a. a -ℤ c.sum_at.result) value ∙ ap (λ a. (c.args.q *ℤ get_or c.args.self.now.values c.args.s (pos 0)) -ℤ a) c.sum_at.ensures.sum)
+    simp to_z-of_z (ap (λ a. a -ℤ c.sum_at.result) value
+    ∙ ap (λ a. (c.args.q *ℤ get_or c.args.self.now.values c.args.s (pos 0)) -ℤ a)
+    c.sum_at.ensures.sum)

@@ -10,8 +10,10 @@ returns-clause-reached c =
     let r = c.requires in
     let s = c.args.self.now in
     let fq : FitsSigned w128 c.args.at.now.q = factor_fits _ c.requires.factor in
-    let counted : length s.values ≡ 2 ^ length c.args.at.now.x.now = s.counted ∙ ap (λ n. 2 ^ n) (sym r.entries) in
+    let counted : length s.values ≡ 2 ^ length c.args.at.now.x.now = s.counted
+    ∙ ap (λ n. 2 ^ n) (sym r.entries) in
     let kept = simp to_z-of_z at c.keep_tight.ensures.kept in
-    table-reach c.args.at.now.q s.values c.args.at.now.x.now counted r.base c.args.u r.from c.all_but.new.to c.keep_tight.new.to
+    table-reach c.args.at.now.q s.values c.args.at.now.x.now counted r.base c.args.u r.from
+    c.all_but.new.to c.keep_tight.new.to
     (c.keep_tight.ensures.places ∙ (c.all_but.ensures.places ∙ r.room_for_answer))
     (λ v h. c.all_but.ensures.others v (omega (arith, h, r.room_for_answer))) kept

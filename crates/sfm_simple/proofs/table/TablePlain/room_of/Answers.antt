@@ -9,6 +9,10 @@ pub returns : goal.returns
 returns c =
     let r = c.requires in
     let s = c.args.self.now in
-    let counted : length s.values ≡ 2 ^ length c.args.at.now.x.now = s.counted ∙ ap (λ n. 2 ^ n) (sym r.entries) in
-    let is = simp (to_z-of_z w128 c.args.at.now.q (factor_fits _ c.requires.factor)) at c.least_slack.ensures in
-    simp (to_z-of_z w128 c.least_slack.result (record { sfits = c.least_slack.type_inv })) (table-capacity c.args.at.now.q s.values c.args.at.now.x.now counted r.base c.args.u c.args.v r.from r.onto r.apart c.least_slack.result is)
+    let counted : length s.values ≡ 2 ^ length c.args.at.now.x.now = s.counted
+    ∙ ap (λ n. 2 ^ n) (sym r.entries) in
+    let is = simp (to_z-of_z w128 c.args.at.now.q (factor_fits _ c.requires.factor)) at
+    c.least_slack.ensures in
+    simp (to_z-of_z w128 c.least_slack.result (record { sfits = c.least_slack.type_inv }))
+    (table-capacity c.args.at.now.q s.values c.args.at.now.x.now counted r.base c.args.u
+    c.args.v r.from r.onto r.apart c.least_slack.result is)

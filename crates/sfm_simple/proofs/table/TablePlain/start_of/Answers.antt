@@ -11,4 +11,8 @@ pub returns : goal.returns
 returns c =
     let s = c.args.self.now in
     let put = c.write_each.ensures in
-    written (gain_of c.args.q s.values) (length s.places) (IsGreedy c.args.q (table_value s.values) (length s.places)) c.write_each.new.x (put.places ∙ c.requires.entries) (λ j lt. let h = put.shares j (rw c.requires.entries lt) in let e = to_z-of_z w128 c.args.q c.ranges.q in search rules) (table-greedy (length s.places) c.args.q s.values)
+    written (gain_of c.args.q s.values) (length s.places)
+    (IsGreedy c.args.q (table_value s.values) (length s.places)) c.write_each.new.x
+    (put.places ∙ c.requires.entries)
+    (λ j lt. let h = put.shares j (rw c.requires.entries lt) in let e = to_z-of_z w128 c.args.q
+    c.ranges.q in search rules) (table-greedy (length s.places) c.args.q s.values)

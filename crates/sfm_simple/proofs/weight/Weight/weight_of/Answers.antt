@@ -13,10 +13,12 @@ loop-j-preserved c =
     let j = c.loop-j.j in
     let kw : j < length me.weights = rw (← c.as_slice-w-items.ensures) c.loop-j-test.true in
     let ks : j < length c.args.s.now = omega (arith, me.same_count) in
-    let w : IsGiven (get_or me.weights j (pos 0)) = All-get_or IsGiven me.weights j (pos 0) kw me.given in
+    let w : IsGiven (get_or me.weights j (pos 0)) = All-get_or IsGiven me.weights j (pos 0) kw
+    me.given in
     let f : FitsSigned w128 (get_or me.weights j (pos 0)) = given_fits _ w in
     let step = sum_over-drop c.args.s.now me.weights j ks kw in
-    let added = simp to_z-of_z at (rw (c.as_slice-w-items.ensures, c.contains.ensures) at c.share-sum.ensures) in
+    let added = simp to_z-of_z at
+    (rw (c.as_slice-w-items.ensures, c.contains.ensures) at c.share-sum.ensures) in
     let inv = c.loop-j.invariant in
     let small = c.share-sum.ensures.given in
     record {

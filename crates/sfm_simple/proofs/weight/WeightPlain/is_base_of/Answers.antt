@@ -9,5 +9,7 @@ returns c =
     let r = c.requires in
     let s = c.args.self.now in
     let fq : FitsSigned w128 c.args.q = c.ranges.q in
-    let i = simp to_z-of_z at c.is_scaled.ensures in
-    ((λ t. rw (i.0 t) (scaled_is_base c.args.q s.weights)), (λ b. i.1 (base_is_scaled c.args.q s.weights c.args.x.now (r.entries ∙ s.same_count) b)))
+    let i = simp to_z-of_z at c.is_scaled.ensures in (
+      (λ t. rw (i.0 t) (scaled_is_base c.args.q s.weights)),
+      (λ b. i.1 (base_is_scaled c.args.q s.weights c.args.x.now (r.entries ∙ s.same_count) b)),
+    )

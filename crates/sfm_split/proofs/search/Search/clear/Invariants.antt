@@ -7,5 +7,6 @@ abbrev pub invariant-loop-k : goal.invariant-loop-k
 invariant-loop-k l = record {
   marks : l.self.marks.items ≡ l.initial.self.marks.items;
   queue : l.self.queue.items ≡ l.initial.self.queue.items;
-  cleared : IsClearedTo l.initial.self.nodes.items l.initial.self.queue.items l.self.nodes.items l.k;
+  cleared : IsClearedTo l.initial.self.nodes.items l.initial.self.queue.items l.self.nodes.items
+      l.k;
 }

@@ -17,9 +17,14 @@ abbrev node : (c : In_ok-push) → Node
 node c = record { level = c.len.result; link = Some c.args.link }
 
 -- the demand is the next one that was found
-found : (c : In_ok-push) → (c.index-i.result.now ≡ label_at c.args.cells.now.whos.items c.args.link.own) × (c.index-i.result.now < length c.args.self.now.nodes.items)
-    × IsProgress c.args.cells.now.whos.items c.args.cells.now.slots.items c.args.y.now (set c.args.self.now.nodes.items c.index-i.result.now (Some (node c))) c.args.self.now.marks.items (c.args.self.now.queue.items ++ c.index-i.result.now ∷ [])
-    × IsFurther c.args.self.now.nodes.items c.args.self.now.queue.items (set c.args.self.now.nodes.items c.index-i.result.now (Some (node c))) (c.args.self.now.queue.items ++ c.index-i.result.now ∷ [])
+found : (c : In_ok-push) → (c.index-i.result.now ≡ label_at c.args.cells.now.whos.items
+    c.args.link.own) × (c.index-i.result.now < length c.args.self.now.nodes.items)
+    × IsProgress c.args.cells.now.whos.items c.args.cells.now.slots.items c.args.y.now
+    (set c.args.self.now.nodes.items c.index-i.result.now (Some (node c)))
+    c.args.self.now.marks.items (c.args.self.now.queue.items ++ c.index-i.result.now ∷ [])
+    × IsFurther c.args.self.now.nodes.items c.args.self.now.queue.items
+    (set c.args.self.now.nodes.items c.index-i.result.now (Some (node c)))
+    (c.args.self.now.queue.items ++ c.index-i.result.now ∷ [])
 found c =
     let whos = c.args.cells.now.whos.items in
     let slots = c.args.cells.now.slots.items in
@@ -41,19 +46,25 @@ found c =
     let lower = c.requires.progress.levels (label_at whos link.other) parent is in
     let f : FitsSigned w128 (get_or y link.own (pos 0)) = search rules in
     let some : pos 1 ≤ℤ amount_at y link.own = omega (arith, ints) in
-    let here : IsNode whos slots y nodes i b = rw who (linked_node whos slots y nodes level link lo c.requires.other c.requires.shared parent is (omega (arith, lower, len, ok)) some) in
+    let here : IsNode whos slots y nodes i b = rw who
+    (linked_node whos slots y nodes level link lo c.requires.other c.requires.shared parent is
+    (omega (arith, lower, len, ok)) some) in
     let next : level ≡ length self.queue.items = omega (arith, len, ok) in (
       who,
       lt,
-      found_progress whos slots y nodes self.marks.items self.queue.items c.requires.progress i b lt out here next (no_link b link refl),
-      found_further whos slots y nodes self.marks.items self.queue.items c.requires.progress i b lt out here next (no_link b link refl),
+      found_progress whos slots y nodes self.marks.items self.queue.items c.requires.progress i b lt
+          out here next (no_link b link refl),
+      found_further whos slots y nodes self.marks.items self.queue.items c.requires.progress i b lt
+          out here next (no_link b link refl),
     )
 
 pub returns-clause-progress : goal.returns-clause-progress
-returns-clause-progress c = let (who, lt, progress, further) = found (goal.at.returns-clause-progress c).In_ok-push in rw c.in_ok-push.ensures.items progress
+returns-clause-progress c = let (who, lt, progress, further) = found
+    (goal.at.returns-clause-progress c).In_ok-push in rw c.in_ok-push.ensures.items progress
 
 pub returns-clause-further : goal.returns-clause-further
-returns-clause-further c = let (who, lt, progress, further) = found (goal.at.returns-clause-further c).In_ok-push in rw c.in_ok-push.ensures.items further
+returns-clause-further c = let (who, lt, progress, further) = found
+    (goal.at.returns-clause-further c).In_ok-push in rw c.in_ok-push.ensures.items further
 
 pub returns-clause-seen : goal.returns-clause-seen
 returns-clause-seen c =
@@ -61,4 +72,6 @@ returns-clause-seen c =
     let nodes = c.args.self.now.nodes.items in
     let i = c.index-i.result.now in
     let b = node (goal.at.returns-clause-seen c).In_ok-push in
-    λ none. absurd (none-some b (sym none ∙ (ap (λ k. node_at (set nodes i (Some b)) k) (sym who) ∙ get_or-set_same nodes i (Some b) None lt)))
+    λ none. absurd (none-some b (sym none
+    ∙ (ap (λ k. node_at (set nodes i (Some b)) k) (sym who)
+    ∙ get_or-set_same nodes i (Some b) None lt)))

@@ -9,7 +9,8 @@ use Rattle.sfm_split.proofs.search.Search.find_roots.Goals as goal
 use Rattle.sfm_split.proofs.search.Search.find_roots.Goals.{After-index-i, then-index-gt0+then-not-is_found+in_ok-push, else-index-gt0, else-index-gt0-via-then-index-gt0+else-not-is_found, else-index-gt0-via-else-index-gt0}
 
 -- the next demand of the list
-next_is : (c : After-index-i) → (c.loop-k.k < length c.args.left.now.lacking.items) × (c.index-i.result.now ≡ label_at c.args.left.now.lacking.items c.loop-k.k)
+next_is : (c : After-index-i) → (c.loop-k.k < length c.args.left.now.lacking.items)
+    × (c.index-i.result.now ≡ label_at c.args.left.now.lacking.items c.loop-k.k)
 next_is c =
     let list = c.args.left.now.lacking in
     let ok = list.ok.0 in
@@ -20,7 +21,12 @@ pub loop-k-init : goal.loop-k-init
 loop-k-init c =
     let at = c.args.self.now in
     let left = c.args.left.now in
-    record { marks = refl; roots = rw c.requires.queue (roots_none left.lacks.items left.lacking.items at.nodes.items c.requires.places c.requires.none) }
+    record {
+      marks = refl;
+      roots = rw c.requires.queue
+          (roots_none left.lacks.items left.lacking.items at.nodes.items c.requires.places
+          c.requires.none);
+    }
 
 pub loop-k-preserved : goal.loop-k-preserved
 loop-k-preserved c =
@@ -34,21 +40,32 @@ loop-k-preserved c =
     let x : ℤ = c.index.result.now in
     let f : FitsSigned w128 x = search rules in
     let below = c.requires.listed.below k lt in
-    let lack = get_or_read lacks c.index-i.result.now x (omega (arith, is, below)) c.index.ensures (pos 0) in
+    let lack = get_or_read lacks c.index-i.result.now x (omega (arith, is, below)) c.index.ensures
+    (pos 0) in
     let same = ap (λ m. amount_at lacks m) is in
     elim c.if-index-gt0.branch [
       | then-index-gt0+then-not-is_found+in_ok-push w ↦ (
           let t = w.if-index-gt0.true in
-          let some : pos 1 ≤ℤ amount_at lacks (label_at list k) = omega (arith, ints, t, lack, same) in
-          let fresh = rw (w.if-not-is_found.true, is, w.deref.ensures.value) at w.is_found.ensures in
-          rw (w.self-is, w.in_ok-push.ensures.items, is) (record { marks = inv.marks; roots = roots_put lacks list at.nodes.items at.queue.items k inv.roots c.requires.listed lt fresh (record { level = 0; link = None }) (refl, refl, some) }))
+          let some : pos 1 ≤ℤ amount_at lacks
+          (label_at list k) = omega (arith, ints, t, lack, same) in
+          let fresh = rw (w.if-not-is_found.true, is, w.deref.ensures.value) at
+          w.is_found.ensures in
+          rw (w.self-is, w.in_ok-push.ensures.items, is)
+          (record {
+            marks = inv.marks;
+            roots = roots_put lacks list at.nodes.items at.queue.items k inv.roots
+                c.requires.listed lt fresh (record { level = 0; link = None }) (refl, refl, some);
+          }))
       | else-index-gt0 w ↦ rw w.self-is (record {
         marks = inv.marks;
         roots = elim w.else-index-gt0.branch [
-          | else-index-gt0-via-then-index-gt0+else-not-is_found v ↦ roots_again lacks list at.nodes.items at.queue.items k inv.roots (rw (v.if-not-is_found.false, is, v.deref.ensures.value) at v.is_found.ensures)
+          | else-index-gt0-via-then-index-gt0+else-not-is_found v ↦ roots_again lacks list
+              at.nodes.items at.queue.items k inv.roots
+              (rw (v.if-not-is_found.false, is, v.deref.ensures.value) at v.is_found.ensures)
           | else-index-gt0-via-else-index-gt0 v ↦ (
               let t = v.if-index-gt0.false in
-              let full : amount_at lacks (label_at list k) ≤ℤ pos 0 = omega (arith, ints, t, lack, same) in
+              let full : amount_at lacks (label_at list k) ≤ℤ pos
+              0 = omega (arith, ints, t, lack, same) in
               roots_skip lacks list at.nodes.items at.queue.items k inv.roots full)
         ];
       })
@@ -59,4 +76,5 @@ returns-clause-nodes c =
     let left = c.args.left.now in
     let at = c.loop-k.self in
     let ok = left.lacking.ok.0 in
-    roots_all left.lacks.items left.lacking.items at.nodes.items at.queue.items c.loop-k.k c.loop-k.invariant.roots c.requires.listed (omega (arith, ok))
+    roots_all left.lacks.items left.lacking.items at.nodes.items at.queue.items c.loop-k.k
+    c.loop-k.invariant.roots c.requires.listed (omega (arith, ok))

@@ -11,17 +11,24 @@ use Rattle.sfm_split.proofs.search.Search.handle.Goals as goal
 use Rattle.sfm_split.proofs.search.Search.handle.Goals.{After-index-s, then-not-index+else-rooms-s-gt0+in_ok-sweep, else-not-index}
 
 -- the slot of the cell
-slot : (c : After-index-s) → let k = label_at c.args.cells.now.slots.items (label_at c.list-e-items.result.now c.loop-e.e-index) in (c.index-s.result.now ≡ k) × (k < length c.args.rooms.now)
+slot : (c : After-index-s) → let k = label_at c.args.cells.now.slots.items
+    (label_at c.list-e-items.result.now c.loop-e.e-index) in (c.index-s.result.now ≡ k)
+    × (k < length c.args.rooms.now)
 slot c =
     let e = label_at c.list-e-items.result.now c.loop-e.e-index in
     let same = c.requires.cells.same in
-    let (lt, mine) = pass_here c.args.cells.now.whos_grouped c.list-e-items.ensures c.loop-e-test.true in
-    (get_or_read c.args.cells.now.slots.items e c.index-s.result.now (omega (arith, lt, same)) c.index-s.ensures 0, c.requires.cells.exist e lt)
+    let (lt, mine) = pass_here c.args.cells.now.whos_grouped c.list-e-items.ensures
+    c.loop-e-test.true in (
+      get_or_read c.args.cells.now.slots.items e c.index-s.result.now (omega (arith, lt, same))
+          c.index-s.ensures 0,
+      c.requires.cells.exist e lt,
+    )
 
 pub index-s-requires : goal.index-s-requires
 index-s-requires c =
     let same = c.requires.cells.same in
-    let (lt, mine) = pass_here c.args.cells.now.whos_grouped c.list-e-items.ensures c.loop-e-test.true in
+    let (lt, mine) = pass_here c.args.cells.now.whos_grouped c.list-e-items.ensures
+    c.loop-e-test.true in
     let ok = c.args.cells.now.slots.ok.0 in
     omega (arith, lt, same, ok)
 
@@ -58,17 +65,22 @@ loop-e-preserved c =
             handled = record {
               places = ap length told.marks ∙ (length-set marks k true ∙ h.places);
               progress = told.progress;
-              further = further_more first.nodes.items self.nodes.items after.nodes.items first.queue.items self.queue.items after.queue.items h.further told.further;
+              further = further_more first.nodes.items self.nodes.items after.nodes.items
+                  first.queue.items self.queue.items after.queue.items h.further told.further;
               full = rw told.marks (marked_full marks rooms k full h.full);
               kept = λ m has. rw told.marks (marked_kept marks k m in_marks (h.kept m has));
             };
-            passed = rw told.marks (pass_more (Marked (set marks k true)) inv.passed (λ f has. marked_kept marks k (label_at slots f) in_marks has) (marked_here marks k in_marks));
+            passed = rw told.marks (pass_more (Marked (set marks k true)) inv.passed
+                (λ f has. marked_kept marks k (label_at slots f) in_marks has)
+                (marked_here marks k in_marks));
           }))
       | else-not-index w ↦ (
-          let v = get_or_read marks s c.index.result.now (omega (arith, is, exist, places)) c.index.ensures false in
+          let v = get_or_read marks s c.index.result.now (omega (arith, is, exist, places))
+          c.index.ensures false in
           rw w.self-is (record {
             handled = h;
-            passed = pass_more (Marked marks) inv.passed (λ f has. has) (ap (λ j. get_or marks j false) (sym is) ∙ (sym v ∙ w.if-not-index.false));
+            passed = pass_more (Marked marks) inv.passed (λ f has. has)
+                (ap (λ j. get_or marks j false) (sym is) ∙ (sym v ∙ w.if-not-index.false));
           }))
     ]
 
@@ -77,22 +89,32 @@ loop-e-init c =
     let cells = c.args.cells.now in
     let self = c.args.self.now in
     record {
-      handled = record { places = c.requires.places; progress = c.requires.progress; further = further_none self.nodes.items self.queue.items; full = c.requires.full; kept = λ m has. has };
-      passed = pass_begun c.list-e-items.result.now (λ e. Has self.marks.items (label_at cells.slots.items e));
+      handled = record {
+        places = c.requires.places;
+        progress = c.requires.progress;
+        further = further_none self.nodes.items self.queue.items;
+        full = c.requires.full;
+        kept = λ m has. has;
+      };
+      passed = pass_begun c.list-e-items.result.now
+          (λ e. Has self.marks.items (label_at cells.slots.items e));
     }
 
 pub sweep-requires-clause-cells : goal.sweep-requires-clause-cells
-sweep-requires-clause-cells c = let h = c.loop-e.invariant.handled in rw (h.further.places, h.places) c.requires.cells
+sweep-requires-clause-cells c =
+    let h = c.loop-e.invariant.handled in rw (h.further.places, h.places) c.requires.cells
 
 pub sweep-requires-clause-same : goal.sweep-requires-clause-same
 sweep-requires-clause-same c = c.requires.same
 
 pub sweep-requires-clause-cell : goal.sweep-requires-clause-cell
-sweep-requires-clause-cell c = let (lt, mine) = pass_here c.args.cells.now.whos_grouped c.list-e-items.ensures c.loop-e-test.true in lt
+sweep-requires-clause-cell c = let (lt, mine) = pass_here c.args.cells.now.whos_grouped
+    c.list-e-items.ensures c.loop-e-test.true in lt
 
 pub sweep-requires-clause-found : goal.sweep-requires-clause-found
 sweep-requires-clause-found c =
-    let (lt, mine) = pass_here c.args.cells.now.whos_grouped c.list-e-items.ensures c.loop-e-test.true in
+    let (lt, mine) = pass_here c.args.cells.now.whos_grouped c.list-e-items.ensures
+    c.loop-e-test.true in
     let (b, is) = c.requires.found in
     rw mine (b, c.loop-e.invariant.handled.further.kept c.args.i b is)
 
@@ -103,4 +125,5 @@ pub returns-clause-handled : goal.returns-clause-handled
 returns-clause-handled c = c.loop-e.invariant.handled
 
 pub returns-clause-told : goal.returns-clause-told
-returns-clause-told c = λ e lt mine. pass_done c.args.cells.now.whos_grouped c.list-e-items.ensures c.loop-e-test.false c.loop-e.invariant.passed e lt mine
+returns-clause-told c = λ e lt mine. pass_done c.args.cells.now.whos_grouped c.list-e-items.ensures
+    c.loop-e-test.false c.loop-e.invariant.passed e lt mine

@@ -12,4 +12,6 @@ returns-in_default c = λ text lead.
 pub returns : goal.returns
 returns c = λ text lead.
     let ended : c.args.self.reading.stage ≡ Ended = search rules in
-    told-by text c.args.self _ c.in-Some.between.items lead ended c.into_instance-instance.ensures c.lines.ensures.lined c.in-Some.ensures (rw (c.lines.ensures.lines, c.deref.ensures.value) at c.in_ok-term_lines.ensures)
+    told-by text c.args.self _ c.in-Some.between.items lead ended c.into_instance-instance.ensures
+    c.lines.ensures.lined c.in-Some.ensures
+    (rw (c.lines.ensures.lines, c.deref.ensures.value) at c.in_ok-term_lines.ensures)

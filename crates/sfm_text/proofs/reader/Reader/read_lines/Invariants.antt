@@ -10,7 +10,8 @@ invariant-loop-end l = record {
   parts : l.piece ≡ done ++ l.left;
   first : l.end ≡ position_or_len (λ c. c == 10) l.left;
   faultless : l.self.fault ≡ None;
-  open_ : (text : List ℕ) → IsOpen (progress_of l.fn.self) l.fn.self.rest.items text → IsOpen (progress_of l.self) l.self.rest.items (text ++ done);
+  open_ : (text : List ℕ) → IsOpen (progress_of l.fn.self) l.fn.self.rest.items text
+      → IsOpen (progress_of l.self) l.self.rest.items (text ++ done);
   room : l.self.lines + length l.self.rest.items + length l.left ≤ l.self.count;
   count : l.self.count ≡ l.fn.self.count;
   spent : l.self.spent ≡ l.fn.self.spent;
