@@ -1,6 +1,6 @@
 // Sets of places below 256, as four words of 64 bits: the rows of what each place reaches, and the levels of a search. A
-// set is a plain value and takes no memory of its own. Two sets are joined or compared by words, which are named one by one: so
-// a compiler keeps them in registers, where it would keep lists of them in memory.
+// set is a plain value and takes no memory of its own. Two sets are joined or compared by their words, which are named one by one,
+// so no loop goes through them.
 ghost use Rattle.std.specs.Prelude.{◌≡◌, ◌≢◌, ◌↔◌, ℕ, ◌-◌, ◌<◌, ◌≤◌, length, max, min, true, false, IsTrue, MatchOption, if◌then◌else◌};
 ghost use Rattle.sfm_base.specs.Words.{bit_of};
 ghost use Rattle.sfm_reach.specs.Bits.{bit_in};
