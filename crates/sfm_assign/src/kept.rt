@@ -244,7 +244,7 @@ impl Kept {
     }
 
     /// Writes a split of m times the demands of another over the same lists, whose slots hold m times as much, in place of this one.
-    /// Each amount is m times what it is there; nothing is remembered. It takes no memory.
+    /// Each amount is m times what it is there; nothing is remembered. The amounts take no memory.
     pub fn copy_times(&mut self, m: i128, from: &Kept)
         requires low { pos 1 ≤ℤ m }
         requires lists { self.old.demand.lists ≡ from.now.demand.lists }

@@ -181,8 +181,8 @@ pub trait Term {
         Ok(None)
     }
 
-    /// Writes a note that fits m times a base, made as `note_times` makes one, over another note of the term, and so takes no memory;
-    /// or tells false where it writes none: nothing is said of that other note then.
+    /// Writes a note that fits m times a base, made as `note_times` makes one, in the memory of another note of the term; or tells
+    /// false where it writes none: nothing is said of that other note then.
     fn note_over(&self, _m: i128, _at: &At<'_>, _note: &Self::Note, _over: &mut Self::Note) -> bool
         requires times { IsFactor _m }
         requires based { IsBased places value_of size_of self.now _at.now.q _at.now.x.now }
