@@ -1,5 +1,5 @@
 -- Rows that are asked one after the other, and the steps that they tell.
-use Rattle.std.proofs.Common.{◌≡◌, ◌≢◌, ◌⊎◌, inl, inr, ℕ, zero, suc, ◌+◌, ◌<◌, List, [], ◌∷◌, length, set, ℤ, sym, ◌∙◌, arith, get_or-set_same, get_or-set_other}
+use Rattle.std.proofs.Common.{◌≡◌, ◌≢◌, ◌⊎◌, ⊎_elim, inl, inr, ℕ, zero, suc, ◌+◌, ◌<◌, List, [], ◌∷◌, length, set, ℤ, sym, ◌∙◌, arith, get_or-set_same, get_or-set_other}
 use Rattle.std.proofs.lemmas.Bool.{cases_eq}
 use Rattle.std.proofs.lemmas.List.Sums.{sum_by-set}
 use Rattle.sfm_spec.specs.Sets.{AreDistinct}
@@ -14,6 +14,12 @@ use Rattle.sfm_exchange.specs.Claimed.{IsAsked, claims_of}
 use Rattle.sfm_exchange.specs.Hops.{AreHops, IsHop, IsMovable, hop_at}
 use Rattle.sfm_reach.specs.Reach.{IsRow, table_at}
 use Rattle.sfm_reach.proofs.Picking.{picking_shrinks}
+
+-- what is in a set now was in the one before, which had what this has
+pub bit_back : (before after : Bits) (t : ℕ) → (bit_in before t ≢ 1 → bit_in after t ≢ 1)
+    → bit_in after t ≡ 1 → bit_in before t ≡ 1
+bit_back before after t fall one =
+    ⊎_elim (λ is. is) (λ ne. absurd (fall ne one)) (cases_eq (bit_in before t) 1)
 
 -- no more are claimed
 pub asked_le : (tables tables' : List (List Bits)) (claimed claimed' : List Bits)

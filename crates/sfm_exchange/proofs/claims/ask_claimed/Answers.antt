@@ -1,19 +1,13 @@
-use Rattle.std.proofs.Common.{◌≡◌, ◌≢◌, ◌+◌, ◌<◌, ⊎_elim, ℕ, refl, subst, ◌∙◌, arith, FitsSigned}
-use Rattle.std.proofs.lemmas.Bool.{cases_eq, cases_lt}
+use Rattle.std.proofs.Common.{◌≡◌, ◌+◌, ◌<◌, ⊎_elim, ℕ, refl, subst, ◌∙◌, arith, FitsSigned}
+use Rattle.std.proofs.lemmas.Bool.{cases_lt}
 use Rattle.std.proofs.lemmas.Int.{to_z-of_z}
 use mir.Syntax.{w128}
-use Rattle.sfm_reach.specs.declared.bits.Bits.{Bits}
-use Rattle.sfm_reach.specs.Bits.{bit_in, set_at}
+use Rattle.sfm_reach.specs.Bits.{set_at}
 use Rattle.sfm_exchange.specs.Claimed.{IsSettled}
+use Rattle.sfm_exchange.proofs.Asked.{bit_back}
 use Rattle.sfm_exchange.proofs.ClaimedGraphs.{whole_settled}
 use Rattle.sfm_exchange.proofs.Still.{still_begun, still_ready, still_then}
 use Rattle.sfm_exchange.proofs.claims.ask_claimed.Goals as goal
-
--- what is in a set now was in the one before, which had what this has
-bit_back : (before after : Bits) (t : ℕ) → (bit_in before t ≢ 1 → bit_in after t ≢ 1)
-    → bit_in after t ≡ 1 → bit_in before t ≡ 1
-bit_back before after t fall one =
-    ⊎_elim (λ is. is) (λ ne. absurd (fall ne one)) (cases_eq (bit_in before t) 1)
 
 pub loop-e-init : goal.loop-e-init
 loop-e-init g c =

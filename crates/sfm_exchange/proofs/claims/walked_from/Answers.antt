@@ -1,14 +1,13 @@
-use Rattle.std.proofs.Common.{◌≡◌, ◌≢◌, ◌<◌, ⊎_elim, ℕ, length, ◌∙◌, arith, FitsSigned}
-use Rattle.std.proofs.lemmas.Bool.{cases_eq}
+use Rattle.std.proofs.Common.{◌≡◌, ◌<◌, length, ◌∙◌, arith, FitsSigned}
 use Rattle.std.proofs.lemmas.Int.{to_z-of_z}
 use Rattle.std.proofs.lemmas.List.{get_or_default}
 use mir.Syntax.{w128}
 use Rattle.sfm_spec.specs.Families.{meanings}
 use Rattle.sfm_spec.proofs.Walks.{step_below}
-use Rattle.sfm_reach.specs.declared.bits.Bits.{Bits}
-use Rattle.sfm_reach.specs.Bits.{bit_in, blank_bits, set_at}
+use Rattle.sfm_reach.specs.Bits.{blank_bits, set_at}
 use Rattle.sfm_exchange.specs.Graph.{IsStill}
 use Rattle.sfm_reach.specs.Unions.{IsArc}
+use Rattle.sfm_exchange.proofs.Asked.{bit_back}
 use Rattle.sfm_exchange.proofs.ClaimedGraphs.{are_terms, have_links, low, unions_count}
 use Rattle.sfm_reach.proofs.Options.{match_none}
 use Rattle.sfm_reach.proofs.Searching.{IsLook, ahead_below, search_begun, search_more, search_shrinks, walks_done}
@@ -62,12 +61,6 @@ look g c =
       others = c.remove.ensures.others;
       taken = rw read at c.take_in.ensures;
     }
-
--- what is in a set now was in the one before, which had what this has
-bit_back : (before after : Bits) (t : ℕ) → (bit_in before t ≢ 1 → bit_in after t ≢ 1)
-    → bit_in after t ≡ 1 → bit_in before t ≡ 1
-bit_back before after t fall one =
-    ⊎_elim (λ is. is) (λ ne. absurd (fall ne one)) (cases_eq (bit_in before t) 1)
 
 pub loop-e-init : goal.loop-e-init
 loop-e-init g c =
