@@ -8,7 +8,7 @@ use Rattle.sfm_spec.specs.Bounds.{IsAtMost}
 use Rattle.sfm_base.specs.Rows.{rows_from}
 use Rattle.sfm_base.proofs.Rowing.{all_numbers, rows-map}
 use Rattle.sfm_base.proofs.rows.Rows.times.Goals as goal
-use Rattle.sfm_base.proofs.rows.Rows.times.Goals.{In-loop-a}
+use Rattle.sfm_base.proofs.rows.Rows.times.Goals.{After-deref, In-loop-a}
 
 -- the next number is small
 small : (c : In-loop-a) → IsAtMost (10 ^ 21)
@@ -62,28 +62,27 @@ loop-a-preserved c =
     (take c.loop-a.a-index c.deref-a-items.result.now) = simp to_z-of_z at c.loop-a.invariant in
     simp to_z-of_z (pushed ∙ (ap (λ n. n ++ (q *ℤ a) ∷ []) so_far ∙ sym more))
 
-pub returns : goal.returns
-returns c =
-    let ends = c.self.inside.ends.items in
-    let xs = c.self.inside.numbers.items in
-    let q = c.args.q in
+-- the numbers are q times those of the rows
+numbers : (c : After-deref) → c.loop-a.numbers.items ≡ map (λ a. c.args.q *ℤ a)
+    c.self.inside.numbers.items
+numbers c =
     let end = c.loop-a-test.false in
     let all = take_all c.loop-a.a-index c.deref-a-items.result.now (omega (arith, end)) in
     let fq : FitsSigned w128 c.args.q = c.ranges.q in
-    let numbers : c.loop-a.numbers.items ≡ map (λ a. q *ℤ a)
-    xs = rw (all, c.deref-a-items.ensures.value) at (simp to_z-of_z at c.loop-a.invariant) in
-    rw (c.in_ok-ends.ensures.items, c.deref.ensures.value, numbers)
-    (rows-map (λ a. q *ℤ a) 0 ends xs ∙ ap (map (map (λ a. q *ℤ a))) c.self.view_is)
+    rw (all, c.deref-a-items.ensures.value) at (simp to_z-of_z at c.loop-a.invariant)
+
+pub returns : goal.returns
+returns c =
+    let q = c.args.q in
+    rw (c.in_ok-ends.ensures.items, c.deref.ensures.value, numbers (goal.at.returns c).After-deref)
+    (rows-map (λ a. q *ℤ a) 0 c.self.inside.ends.items c.self.inside.numbers.items
+    ∙ ap (map (map (λ a. q *ℤ a))) c.self.view_is)
 
 pub invariant_of-result : goal.invariant_of-result
 invariant_of-result c =
-    let ends = c.self.inside.ends.items in
-    let xs = c.self.inside.numbers.items in
-    let q = c.args.q in
-    let end = c.loop-a-test.false in
-    let all = take_all c.loop-a.a-index c.deref-a-items.result.now (omega (arith, end)) in
-    let fq : FitsSigned w128 c.args.q = c.ranges.q in
-    let numbers : c.loop-a.numbers.items ≡ map (λ a. q *ℤ a)
-    xs = rw (all, c.deref-a-items.ensures.value) at (simp to_z-of_z at c.loop-a.invariant) in
-    rw (c.in_ok-ends.ensures.items, c.deref.ensures.value, numbers, length-map xs (λ a. q *ℤ a))
-    c.self.invariant
+    rw (
+      c.in_ok-ends.ensures.items,
+      c.deref.ensures.value,
+      numbers (goal.at.invariant_of-result c).After-deref,
+      length-map c.self.inside.numbers.items (λ a. c.args.q *ℤ a),
+    ) c.self.invariant
