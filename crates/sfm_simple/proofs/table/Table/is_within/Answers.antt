@@ -1,16 +1,9 @@
-use Rattle.std.proofs.Common.{◌≡◌, ℕ, ◌+◌, ◌<◌, List, length, ℤ, pos, ◌≤ℤ◌, ⊎_elim, refl, subst, arith, FitsSigned}
-use Rattle.std.proofs.lemmas.Bool.{cases_lt, false≢true}
+use Rattle.std.proofs.Common.{◌<◌, length, pos, ◌≤ℤ◌, refl, arith, FitsSigned, below_more}
+use Rattle.std.proofs.lemmas.Bool.{false≢true}
 use Rattle.std.proofs.lemmas.Int.{ints, to_z-of_z}
 use mir.Syntax.{w128}
 use Rattle.sfm_simple.specs.TableLaws.{slack_of}
 use Rattle.sfm_simple.proofs.table.Table.is_within.Goals as goal
-
-more : (q : ℤ) (values x : List ℤ) (i : ℕ) → ((n : ℕ) → n < i → pos 0 ≤ℤ slack_of q values x n)
-    → pos 0 ≤ℤ slack_of q values x i → (n : ℕ) → n < i + 1 → pos 0 ≤ℤ slack_of q values x n
-more q values x i before here =
-    λ n l. ⊎_elim (λ less. before n less)
-    (λ ge. let same : i ≡ n = omega (arith, l, ge) in subst (λ z. pos 0 ≤ℤ slack_of q values x z)
-    same here) (cases_lt n i)
 
 pub loop-s-preserved : goal.loop-s-preserved
 loop-s-preserved c =
@@ -20,8 +13,9 @@ loop-s-preserved c =
     let t = simp to_z-of_z at c.if-slack-lt0.false in
     let low : pos 0 ≤ℤ c.slack.result = omega (arith, ints, t) in
     let before = simp to_z-of_z at c.loop-s.invariant in
-    simp to_z-of_z (more c.args.q c.args.self.now.values c.args.x.now c.loop-s.s before
-    (rw made at low))
+    simp to_z-of_z
+    (below_more (λ s. pos 0 ≤ℤ slack_of c.args.q c.args.self.now.values c.args.x.now s)
+    c.loop-s.s before (rw made at low))
 
 pub returns-then-slack-lt0 : goal.returns-then-slack-lt0
 returns-then-slack-lt0 c =
