@@ -123,20 +123,12 @@ whole_share x = record {
 
 -- ---- numbers of 128 bits
 
-pub record AreFit (sum a : ℤ) : Type 0 where
-  pub share : FitsSigned w128 sum
-  pub entry : FitsSigned w128 a
-  pub more : FitsSigned w128 (sum +ℤ a)
-  pub less : FitsSigned w128 (sum -ℤ a)
-
+-- a share, an entry, their sum and their difference
 pub share_and_entry : (x : List ℤ) (e count : ℕ) (sum : ℤ) → length x ≤ 256 → All IsEntry x
-    → e < length x → IsSomeShare count sum x → AreFit sum (get_or x e (pos 0))
+    → e < length x → IsSomeShare count sum x
+    → let a = get_or x e (pos 0) in FitsSigned w128 sum × FitsSigned w128 a
+    × FitsSigned w128 (sum +ℤ a) × FitsSigned w128 (sum -ℤ a)
 share_and_entry x e count sum few small ke (s, share) =
     let a : IsEntry (get_or x e (pos 0)) = All-get_or IsEntry x e (pos 0) ke small in
     let all : IsAtMost (10 ^ 33) sum = rw share.sums (share_small s x few small) in
-    record {
-      share = share_fits _ all;
-      entry = entry_fits _ a;
-      more = more_fits _ _ all a;
-      less = less_fits _ _ all a;
-    }
+    (share_fits _ all, entry_fits _ a, more_fits _ _ all a, less_fits _ _ all a)

@@ -45,6 +45,11 @@ lacked (a ∷ s) (b ∷ t) h lt = at a b (size-cons a s) (size-cons b t) lt
       at false false sa sb l rest = let (e, has, out) = rest
           (omega (arith, sa, sb, l)) in (suc e, has, out)
 
+within-longer : (a b : Bool) (t s : List Bool) → (a ≡ true → b ≡ true) → IsWithin t s
+    → IsWithin (a ∷ t) (b ∷ s)
+within-longer a b t s first within zero h = first h
+within-longer a b t s first within (suc e) h = within e h
+
 -- a set has parts of each smaller size
 part-of-size : (s : List Bool) (n : ℕ) → n ≤ size s → (t : List Bool) × (length t ≡ length s)
     × IsWithin t s × (size t ≡ n)
@@ -52,29 +57,31 @@ part-of-size [] n le = ([], refl, (λ e h. h), (let z : n ≡ 0 = omega arith in
 part-of-size (false ∷ s) n le =
     let c = size-cons false s in
     let (t, lt, within, is) = part-of-size s n (omega (arith, c, le)) in
-    let d = size-cons false t in
-    (false ∷ t, omega (arith, lt), longer s t within, omega (arith, d, is))
-  where
-    longer : (s t : List Bool) → IsWithin t s → IsWithin (false ∷ t) (false ∷ s)
-    longer s t w zero h = h
-    longer s t w (suc e) h = w e h
+    let d = size-cons false t in (
+      false ∷ t,
+      omega (arith, lt),
+      within-longer false false t s (λ h. h) within,
+      omega (arith, d, is),
+    )
 part-of-size (true ∷ s) zero le = none (part-of-size s zero (omega arith)) where
   none : (t : List Bool) × (length t ≡ length s) × IsWithin t s × (size t ≡ zero) → (t : List Bool)
       × (length t ≡ suc (length s)) × IsWithin t (true ∷ s) × (size t ≡ zero)
   none (t, lt, within, is) = let d = size-cons false
-      t in (false ∷ t, omega (arith, lt), longer t within, omega (arith, d, is)) where
-        longer : (t : List Bool) → IsWithin t s → IsWithin (false ∷ t) (true ∷ s)
-        longer t w zero h = refl
-        longer t w (suc e) h = w e h
+      t in (
+        false ∷ t,
+        omega (arith, lt),
+        within-longer false true t s (λ h. refl) within,
+        omega (arith, d, is),
+      )
 part-of-size (true ∷ s) (suc n) le =
     let c = size-cons true s in
     let (t, lt, within, is) = part-of-size s n (omega (arith, c, le)) in
-    let d = size-cons true t in
-    (true ∷ t, omega (arith, lt), longer s t within, omega (arith, d, is))
-  where
-    longer : (s t : List Bool) → IsWithin t s → IsWithin (true ∷ t) (true ∷ s)
-    longer s t w zero h = refl
-    longer s t w (suc e) h = w e h
+    let d = size-cons true t in (
+      true ∷ t,
+      omega (arith, lt),
+      within-longer true true t s (λ h. refl) within,
+      omega (arith, d, is),
+    )
 
 pub uniform-matroid : (k : ℕ) (cap : ℤ) → pos 0 ≤ℤ cap → IsMatroid k (IsWithinCap cap)
 uniform-matroid k cap low = record {

@@ -14,49 +14,33 @@ difference_small a b g h = record {
   high = omega (arith, ints, g.high, h.low);
 }
 
--- both numbers are listed
-listed : (c : Else-at-eq1) → let values = c.args.values.now in (2 ≤ c.args.at)
-    × IsGiven (get_or values (c.args.at - 1) (pos 0))
-    × IsGiven (get_or values (c.args.at - 2) (pos 0))
+-- both numbers are listed, and they and their difference fit
+listed : (c : Else-at-eq1) → let a = get_or c.args.values.now (c.args.at - 1)
+    (pos 0) in let b = get_or c.args.values.now (c.args.at - 2) (pos 0) in
+    (2 ≤ c.args.at) × IsGiven a × IsGiven b × FitsSigned w128 a × FitsSigned w128 b
+    × FitsSigned w128 (a -ℤ b)
 listed c =
     let values = c.args.values.now in
     let at = c.args.at in
     let ne = c.if-at-eq1.false in
-    let low : 2 ≤ at = omega (arith, ne, c.requires.low) in (
-      low,
-      All-get_or IsGiven values (at - 1) (pos 0) (omega (arith, low, c.requires.high))
-          c.requires.given,
-      All-get_or IsGiven values (at - 2) (pos 0) (omega (arith, low, c.requires.high))
-          c.requires.given,
-    )
+    let low : 2 ≤ at = omega (arith, ne, c.requires.low) in
+    let a = All-get_or IsGiven values (at - 1) (pos 0) (omega (arith, low, c.requires.high))
+    c.requires.given in
+    let b = All-get_or IsGiven values (at - 2) (pos 0) (omega (arith, low, c.requires.high))
+    c.requires.given in
+    (low, a, b, given_fits _ a, given_fits _ b, given_difference_fits _ _ a b)
 
 pub returns-clause-value : goal.returns-clause-value
 returns-clause-value c =
-    let values = c.args.values.now in
-    let at = c.args.at in
-    let (low, a, b) = listed (goal.at.returns-clause-value c).Else-at-eq1 in
-    let fa : FitsSigned w128 (get_or values (at - 1) (pos 0)) = given_fits _ a in
-    let fb : FitsSigned w128 (get_or values (at - 2) (pos 0)) = given_fits _ b in
-    let fd : FitsSigned w128 (get_or values (at - 1) (pos 0) -ℤ get_or values (at - 2)
-    (pos 0)) = given_difference_fits _ _ a b in
-    simp to_z-of_z (increment-is values at low)
+    let (low, a, b, fa, fb, fd) = listed (goal.at.returns-clause-value c).Else-at-eq1 in
+    simp to_z-of_z (increment-is c.args.values.now c.args.at low)
 
 pub returns-clause-small : goal.returns-clause-small
 returns-clause-small c =
-    let values = c.args.values.now in
-    let at = c.args.at in
-    let (low, a, b) = listed (goal.at.returns-clause-small c).Else-at-eq1 in
-    let fa : FitsSigned w128 (get_or values (at - 1) (pos 0)) = given_fits _ a in
-    let fb : FitsSigned w128 (get_or values (at - 2) (pos 0)) = given_fits _ b in
-    let fd : FitsSigned w128 (get_or values (at - 1) (pos 0) -ℤ get_or values (at - 2)
-    (pos 0)) = given_difference_fits _ _ a b in
+    let (low, a, b, fa, fb, fd) = listed (goal.at.returns-clause-small c).Else-at-eq1 in
     simp to_z-of_z (difference_small _ _ a b)
 
 pub overflow_sub-result-3 : goal.overflow_sub-result-3
 overflow_sub-result-3 c =
-    let values = c.args.values.now in
-    let at = c.args.at in
-    let (low, a, b) = listed (goal.at.overflow_sub-result-3 c).Else-at-eq1 in
-    let fa : FitsSigned w128 (get_or values (at - 1) (pos 0)) = given_fits _ a in
-    let fb : FitsSigned w128 (get_or values (at - 2) (pos 0)) = given_fits _ b in
-    simp to_z-of_z (given_difference_fits _ _ a b)
+    let (low, a, b, fa, fb, fd) = listed (goal.at.overflow_sub-result-3 c).Else-at-eq1 in
+    simp to_z-of_z fd

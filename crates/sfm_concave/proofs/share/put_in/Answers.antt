@@ -13,16 +13,11 @@ overflow_add-result c =
 pub overflow_add-result-2 : goal.overflow_add-result-2
 overflow_add-result-2 c =
     let r = c.requires in
-    let fit = share_and_entry _ _ _ _ r.few r.small r.from r.share in
-    let fs = fit.share in
-    let fa = fit.entry in
-    simp to_z-of_z fit.more
+    let (fs, fa, more, less) = share_and_entry _ _ _ _ r.few r.small r.from r.share in
+    simp to_z-of_z more
 
 pub returns : goal.returns
 returns c s own out =
     let r = c.requires in
-    let fit = share_and_entry _ _ _ _ r.few r.small r.from r.share in
-    let fs = fit.share in
-    let fa = fit.entry in
-    let ft = fit.more in
+    let (fs, fa, more, less) = share_and_entry _ _ _ _ r.few r.small r.from r.share in
     simp to_z-of_z (in_share _ _ _ s own c.args.u r.from out)
