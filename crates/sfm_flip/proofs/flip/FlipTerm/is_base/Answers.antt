@@ -1,5 +1,5 @@
 -- The bases are the negated ones.
-use Rattle.std.proofs.Common.{◌≡◌, ◌↔◌, ◌∙◌, IsTrue}
+use Rattle.std.proofs.Common.{◌↔◌, ◌∙◌, IsTrue}
 use Rattle.std.proofs.lemmas.Result.{IfOk-weaker}
 use Rattle.sfm_spec.specs.Terms.{times, IsBase}
 use Rattle.sfm_kind.specs.Kinds.{kind_value}
@@ -20,9 +20,11 @@ returns-clause-told c =
     let r = c.requires in
     let x = c.args.x.now in
     let q = c.args.q in
-    let v : c.self.inside.term ≡ s = c.self.view_is in
-    let told = rw (factor_kept _ r.factor, c.as_slice.ensures ∙ c.in_ok-base.ensures, v) at
-    c.is_base.ensures.told in
+    let told = rw (
+      factor_kept _ r.factor,
+      c.as_slice.ensures ∙ c.in_ok-base.ensures,
+      c.self.view_is,
+    ) at c.is_base.ensures.told in
     IfOk-weaker c.is_base.result (λ b. IsTrue b ↔ IsBase (times q (kind_value s)) (negated x))
     (λ b. IsTrue b ↔ IsBase (times q (flip_value s)) x)
     (λ b is. (

@@ -18,11 +18,10 @@ moved-requires-clause-based c =
     let s = c.args.self.now in
     let at = c.args.at.now in
     let r = c.requires in
-    let v : c.self.inside.term ≡ s = c.self.view_is in
     rw (
       factor_kept _ r.based.factor,
       c.as_slice-x.ensures ∙ (c.in_ok-settle.ensures.base ∙ r.noted.0),
-      v,
+      c.self.view_is,
     )
     (based_from s at.q at.x.now r.based)
 
@@ -32,12 +31,11 @@ moved-requires-clause-can c =
     let at = c.args.at.now in
     let swap = c.args.swap.now in
     let r = c.requires in
-    let v : c.self.inside.term ≡ s = c.self.view_is in
     rw (
       factor_kept _ r.based.factor,
       amount_kept _ r.can.low r.can.high,
       c.as_slice-x.ensures ∙ (c.in_ok-settle.ensures.base ∙ r.noted.0),
-      v,
+      c.self.view_is,
     )
     (can_from s at.q at.x.now r.based swap.u swap.v swap.a r.can)
 
@@ -52,13 +50,13 @@ exchange-requires-clause-base c =
     let s = c.args.self.now in
     let at = c.args.at.now in
     let r = c.requires in
-    let v : c.self.inside.term ≡ s = c.self.view_is in
     rw (
       factor_kept _ r.based.factor,
       c.as_mut_slice.ensures.value
           ∙ (c.in_ok-settle.ensures.base ∙ r.noted.0),
-      v,
-    ) (based_from s at.q at.x.now r.based).base
+      c.self.view_is,
+    )
+    (based_from s at.q at.x.now r.based).base
 
 pub exchange-requires-clause-room : goal.exchange-requires-clause-room
 exchange-requires-clause-room c =
@@ -66,12 +64,11 @@ exchange-requires-clause-room c =
     let at = c.args.at.now in
     let swap = c.args.swap.now in
     let r = c.requires in
-    let v : c.self.inside.term ≡ s = c.self.view_is in
     rw (
       factor_kept _ r.based.factor,
       amount_kept _ r.can.low r.can.high,
       c.as_mut_slice.ensures.value ∙ (c.in_ok-settle.ensures.base ∙ r.noted.0),
-      v,
+      c.self.view_is,
     )
     (can_from s at.q at.x.now r.based swap.u swap.v swap.a r.can).room
 
@@ -83,7 +80,6 @@ returns c =
     let r = c.requires in
     let x = at.x.now in
     let note = c.settle.new.note in
-    let v : c.self.inside.term ≡ s = c.self.view_is in
     let k : note.base ≡ negated x = c.in_ok-settle.ensures.base ∙ r.noted.0 in
     let e : c.as_mut_slice.result.now ≡ negated x = c.as_mut_slice.ensures.value ∙ k in
     let b = based_from s at.q x r.based in
@@ -97,10 +93,10 @@ returns c =
       factor_kept _ r.based.factor,
       amount_kept _ r.can.low r.can.high,
       c.as_slice-x.ensures ∙ k,
-      v,
+      c.self.view_is,
     ) at c.in_ok-moved.ensures in
     let some : pos 1 ≤ℤ swap.a = omega (arith, ints, r.can.low, c.if-a-eq0.false) in
-    let had = rw (factor_kept _ r.based.factor, v) at c.in_ok-settle.ensures.settled in
+    let had = rw (factor_kept _ r.based.factor, c.self.view_is) at c.in_ok-settle.ensures.settled in
     let claims = rw k at had.claims in
     let owed = owed_after (kind_places s) (times at.q (kind_value s)) (negated x) swap.v swap.u
     swap.a note.claimed note.rows b.base can.from can.onto can.apart some claims in
@@ -112,8 +108,7 @@ settle-requires-clause-based c =
     let s = c.args.self.now in
     let at = c.args.at.now in
     let r = c.requires in
-    let v : c.self.inside.term ≡ s = c.self.view_is in
-    rw (factor_kept _ r.based.factor, r.noted.0, v) (base_of s at.q at.x.now r.based)
+    rw (factor_kept _ r.based.factor, r.noted.0, c.self.view_is) (base_of s at.q at.x.now r.based)
 
 pub returns-then-a-eq0 : goal.returns-then-a-eq0
 returns-then-a-eq0 c =

@@ -1,5 +1,4 @@
 -- The new note keeps the negated base.
-use Rattle.std.proofs.Common.{◌≡◌}
 use Rattle.sfm_kind.proofs.Passed.{factor_kept}
 use Rattle.sfm_flip.proofs.Bases.{base_of}
 use Rattle.sfm_flip.proofs.flip.FlipTerm.note.Goals as goal
@@ -8,6 +7,5 @@ pub note_at-requires : goal.note_at-requires
 note_at-requires c =
     let s = c.args.self.now in
     let at = c.args.at.now in
-    let v : c.self.inside.term ≡ s = c.self.view_is in
-    rw (factor_kept _ c.requires.factor, c.in_ok-base.ensures, v)
+    rw (factor_kept _ c.requires.factor, c.in_ok-base.ensures, c.self.view_is)
     (base_of s at.q at.x.now c.requires)

@@ -1,5 +1,5 @@
 -- A row is a column of the term at the negated base.
-use Rattle.std.proofs.Common.{◌≡◌, ◌∙◌}
+use Rattle.std.proofs.Common.{◌∙◌}
 use Rattle.std.proofs.lemmas.Result.{on_ok_weaker}
 use Rattle.sfm_kind.specs.Kinds.{kind_value, kind-family, kind-submodular}
 use Rattle.sfm_kind.proofs.Passed.{factor_kept}
@@ -12,16 +12,15 @@ tell_column-requires-clause-based c =
     let s = c.args.self.now in
     let at = c.args.at.now in
     let r = c.requires in
-    let v : c.self.inside.term ≡ s = c.self.view_is in
-    rw (factor_kept _ r.based.factor, r.noted.0, v) (base_of s at.q at.x.now r.based)
+    rw (factor_kept _ r.based.factor, r.noted.0, c.self.view_is) (base_of s at.q at.x.now r.based)
 
 pub returns-clause-reached : goal.returns-clause-reached
 returns-clause-reached c =
     let s = c.args.self.now in
     let at = c.args.at.now in
     let r = c.requires in
-    let v : c.self.inside.term ≡ s = c.self.view_is in
-    let column = rw (factor_kept _ r.based.factor, r.noted.0, v) at c.tell_column.ensures.column in
+    let column = rw (factor_kept _ r.based.factor, r.noted.0, c.self.view_is) at
+    c.tell_column.ensures.column in
     on_ok_weaker c.tell_column.result
     (reach_is _ (kind_value s) (kind-family s) (kind-submodular s) at.q r.based.factor.low
     at.x.now c.args.lead.now.from c.tell_column.new.to r.based.entries r.from
