@@ -1,23 +1,10 @@
-use Rattle.std.proofs.Common.{◌≡◌, ℕ, ◌+◌, ◌<◌, List, length, ℤ, pos, ◌≤ℤ◌, ⊎_elim, refl, subst, arith, FitsSigned}
-use Rattle.std.proofs.lemmas.Bool.{cases_lt, false≢true}
+use Rattle.std.proofs.Common.{◌<◌, length, pos, ◌≤ℤ◌, refl, arith, FitsSigned, below_more}
+use Rattle.std.proofs.lemmas.Bool.{false≢true}
 use Rattle.std.proofs.lemmas.Int.{ints, to_z-of_z}
 use mir.Syntax.{w128}
-use Rattle.sfm_spec.specs.Kinds.{Group}
 use Rattle.sfm_laminar.specs.Crossing.{group_at}
 use Rattle.sfm_laminar.specs.Rooms.{slack_of}
 use Rattle.sfm_laminar.proofs.laminar.Laminar.are_bounded.Goals as goal
-
-more : (q w : ℤ) (x : List ℤ) (groups : List Group) (i : ℕ)
-    → ((j : ℕ) → j < i → pos 0 ≤ℤ slack_of q w x (group_at groups j))
-    → pos 0 ≤ℤ slack_of q w x (group_at groups i)
-    → (j : ℕ) → j < i + 1 → pos 0 ≤ℤ slack_of q w x (group_at groups j)
-more q w x groups i before here = λ j l.
-    ⊎_elim (λ less. before j less)
-    (λ ge. let same : i ≡ j = omega (
-      arith,
-      l,
-      ge,
-    ) in subst (λ z. pos 0 ≤ℤ slack_of q w x (group_at groups z)) same here) (cases_lt j i)
 
 pub loop-i-preserved : goal.loop-i-preserved
 loop-i-preserved c =
@@ -28,7 +15,9 @@ loop-i-preserved c =
     let t = simp to_z-of_z at c.if-slack-lt0.false in
     let low : pos 0 ≤ℤ c.slack.result = omega (arith, ints, t) in
     let before = simp to_z-of_z at c.loop-i.invariant in
-    simp to_z-of_z (more c.args.q s.w c.args.x.now s.groups c.loop-i.i before (rw made at low))
+    simp to_z-of_z
+    (below_more (λ i. pos 0 ≤ℤ slack_of c.args.q s.w c.args.x.now (group_at s.groups i))
+    c.loop-i.i before (rw made at low))
 
 pub returns-then-slack-lt0 : goal.returns-then-slack-lt0
 returns-then-slack-lt0 c =
