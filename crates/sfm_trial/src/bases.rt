@@ -6,13 +6,12 @@ ghost use Rattle.sfm_law.specs.Based.{IsBased};
 ghost use Rattle.sfm_trial.specs.Fit.{IsFit};
 
 use sfm_base::{Memory, Rows};
+use sfm_kind::MOST_SIZE;
 use sfm_law::{At, Term};
 use std::alloc::Global;
 
 /// The greatest magnitude that an entry of a base may have.
 pub const MOST_ENTRY: i128 = 1_000_000_000_000_000_000_000_000_000_000;
-
-const MOST_SIZE: i128 = 1_000_000_000_000_000_000;
 
 /// Whether each number is a possible entry of a base.
 pub fn are_entries(x: &[i128]) -> bool
