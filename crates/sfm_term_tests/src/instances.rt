@@ -2,13 +2,11 @@
 ghost use Rattle.std.specs.Prelude.{◌<◌, ◌^◌, ◌≤ℤ◌, pos};
 
 use sfm_base::Memory;
-use sfm_kind::{Instance, Kind};
+use sfm_kind::{Instance, Kind, MOST_SIZE};
 use sfm_law::Term;
 use sfm_simple::{Cut, Need, Weight};
 use sfm_trial::{NO, add, add_names, value_at};
 use std::alloc::Global;
-
-const MOST_SIZE: i128 = 1_000_000_000_000_000_000;
 
 /// The names of the elements.
 const NAMES: [&str; 2] = ["a", "b"];
