@@ -17,7 +17,7 @@ pub struct Attained {
 
 /// The slope p/q, by numbers that may have a common divisor.
 #[derive(Clone, Copy)]
-pub struct Line {
+pub struct Ratio {
     pub p: i128,
     pub q: i128,
     pub ghost small: { IsAtMost (10 ^ 21) p },
@@ -26,21 +26,21 @@ pub struct Line {
 
 /// What a minimiser is worth, where its shift is that of the slope p/q: the sum is what q times it, less p times the weight of the
 /// set, makes the least value.
-pub fn worth_by(found: Attained, sizes: &[i128], line: Line) -> Worth
+pub fn worth_by(found: Attained, sizes: &[i128], ratio: Ratio) -> Worth
     requires sizes { AreElementSizes (length found.set) sizes.now }
     requires value { (sum : ℤ) × IsGiven sum
-        × (found.value ≡ (line.q *ℤ sum -ℤ line.p *ℤ sum_over found.set sizes.now)) }
+        × (found.value ≡ (ratio.q *ℤ sum -ℤ ratio.p *ℤ sum_over found.set sizes.now)) }
     ensures same { result.set ≡ found.set }
     ensures size { result.size ≡ size found.set }
     ensures weight { result.weight ≡ sum_over found.set sizes.now }
     ensures sum { (sum : ℤ) → IsGiven sum
-        → found.value ≡ (line.q *ℤ sum -ℤ line.p *ℤ sum_over found.set sizes.now)
+        → found.value ≡ (ratio.q *ℤ sum -ℤ ratio.p *ℤ sum_over found.set sizes.now)
         → result.sum ≡ sum }
 {
     let Attained { set, value } = found;
     let size = set.size();
     let weight = weight_of(&set, sizes);
-    let sum = (value + line.p * weight).div_euclid(line.q);
+    let sum = (value + ratio.p * weight).div_euclid(ratio.q);
     Worth {
         set,
         size,

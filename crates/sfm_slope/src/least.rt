@@ -9,7 +9,7 @@ ghost use Rattle.sfm_exchange.specs.Graph.{IsClaimed, IsShaped};
 ghost use Rattle.sfm_sizes.specs.Sizes.{AreElementSizes};
 ghost use Rattle.sfm_slope.specs.{Nears.{IsLeastNear}, Searches.{IsSearch}, Worths.{IsWorth}};
 
-use crate::attained::{Attained, Line, worth_by};
+use crate::attained::{Attained, Ratio, worth_by};
 use crate::rows::grains;
 use crate::search::{GRAIN, Search, set_shift};
 use crate::worth::Worth;
@@ -92,14 +92,14 @@ fn least_below<T: Term>(
 {
     let alloc = search.alloc;
     keep_small(alloc, &mut search.warm, terms, &search.first)?;
-    let line = Line { p, q: GRAIN };
+    let ratio = Ratio { p, q: GRAIN };
     let least = least_on(
         alloc,
         &mut search.warm,
         terms,
         &mut search.shift,
         sizes,
-        line,
+        ratio,
     )?;
     Ok(least)
 }
@@ -124,14 +124,14 @@ fn least_at<T: Term>(
     let p = grains(slope.num);
     let q = grains(slope.den);
     multiply_warm(search, terms, slope.den, sizes)?;
-    let line = Line { p, q };
+    let ratio = Ratio { p, q };
     let least = least_on(
         alloc,
         &mut search.cold,
         terms,
         &mut search.shift,
         sizes,
-        line,
+        ratio,
     )?;
     Ok(least)
 }
@@ -153,7 +153,7 @@ fn least_from_first<T: Term>(
 {
     let alloc = search.alloc;
     restart_first(alloc, &mut search.cold, terms, slope.den, &search.first)?;
-    let line = Line {
+    let ratio = Ratio {
         p: slope.num,
         q: slope.den,
     };
@@ -163,7 +163,7 @@ fn least_from_first<T: Term>(
         terms,
         &mut search.shift,
         sizes,
-        line,
+        ratio,
     )?;
     Ok(least)
 }
@@ -247,21 +247,21 @@ fn least_on<T: Term>(
     terms: &[T],
     shift: &mut Vec<i128>,
     sizes: &[i128],
-    line: Line,
+    ratio: Ratio,
 ) -> Result<Worth, Memory>
     requires sizes { AreElementSizes (length sizes.now) sizes.now }
     requires places { length shift.old.items ≡ length sizes.now }
-    requires graph { IsClaimed T.Term terms.now (length sizes.now) line.q graph.old }
+    requires graph { IsClaimed T.Term terms.now (length sizes.now) ratio.q graph.old }
     requires small { All (λ x. All (IsAtMost (10 ^ 25)) x) graph.old.bases }
     ensures places { OnOk result (length shift.new.items ≡ length sizes.now) }
-    ensures graph { OnOk result (IsClaimed T.Term terms.now (length sizes.now) line.q graph.new) }
+    ensures graph { OnOk result (IsClaimed T.Term terms.now (length sizes.now) ratio.q graph.new) }
     ensures least { IfOk result (λ r. IsLeast (meanings T.places T.value_of terms.now)
-        (length sizes.now) line.q (sized_shift sizes.now line.p) r.set) }
+        (length sizes.now) ratio.q (sized_shift sizes.now ratio.p) r.set) }
     ensures worth { IfOk result (IsWorth (meanings T.places T.value_of terms.now) sizes.now) }
 {
-    set_shift(shift, sizes, line.p);
-    let least = least_by(alloc, graph, terms, line.q, shift.as_slice())?;
-    Ok(worth_by(least, sizes, line))
+    set_shift(shift, sizes, ratio.p);
+    let least = least_by(alloc, graph, terms, ratio.q, shift.as_slice())?;
+    Ok(worth_by(least, sizes, ratio))
 }
 
 // The least minimiser of q times the terms less the shift, from the bases of the graph, with the least value.

@@ -27,19 +27,19 @@ multiply_warm-requires g c =
     let fq : FitsSigned w128 s.den = omega (arith, ints, s.factor.low, s.factor.high) in
     simp to_z-of_z (record { factor = s.factor; few = c.requires.few; search = c.requires.search })
 
-pub invariant_of-line-clause-small : goal.invariant_of-line-clause-small
-invariant_of-line-clause-small g c =
+pub invariant_of-ratio-clause-small : goal.invariant_of-ratio-clause-small
+invariant_of-ratio-clause-small g c =
     let p = c.grains-p.ensures.small in
     let fp : FitsSigned w128 c.grains-p.result = omega (arith, ints, p.low, p.high) in
     simp to_z-of_z p
 
-pub invariant_of-line-clause-factor : goal.invariant_of-line-clause-factor
-invariant_of-line-clause-factor g c =
+pub invariant_of-ratio-clause-factor : goal.invariant_of-ratio-clause-factor
+invariant_of-ratio-clause-factor g c =
     let s = c.args.slope in
     let q = c.grains-q.ensures.small in
     let fq : FitsSigned w128 c.grains-q.result = omega (arith, ints, q.low, q.high) in
     let f : IsFactor c.grains-q.result = rw (grained g
-    (goal.at.invariant_of-line-clause-factor g c).After-grains-q).1
+    (goal.at.invariant_of-ratio-clause-factor g c).After-grains-q).1
     (factor-grains s.den s.factor c.requires.few) in
     let h : IsFactor (to_z w128 (of_z w128 c.grains-q.result)) = simp to_z-of_z f in
     h

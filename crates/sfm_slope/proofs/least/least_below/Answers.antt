@@ -12,12 +12,12 @@ keep_small-requires g c =
       begins = r.begins;
     }
 
-pub invariant_of-line-clause-small : goal.invariant_of-line-clause-small
-invariant_of-line-clause-small g c =
+pub invariant_of-ratio-clause-small : goal.invariant_of-ratio-clause-small
+invariant_of-ratio-clause-small g c =
     let fp : FitsSigned w128 c.args.p = c.ranges.p in simp to_z-of_z c.requires.small
 
-pub invariant_of-line-clause-factor : goal.invariant_of-line-clause-factor
-invariant_of-line-clause-factor g c =
+pub invariant_of-ratio-clause-factor : goal.invariant_of-ratio-clause-factor
+invariant_of-ratio-clause-factor g c =
     record { low = omega (arith, ints); high = omega (arith, ints) }
 
 pub least_on-requires-clause-places : goal.least_on-requires-clause-places

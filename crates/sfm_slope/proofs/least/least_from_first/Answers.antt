@@ -14,15 +14,15 @@ pub restart_first-requires-clause-first : goal.restart_first-requires-clause-fir
 restart_first-requires-clause-first g c =
     rw c.requires.search.cold.are_spots.count c.requires.search.first
 
-pub invariant_of-line-clause-small : goal.invariant_of-line-clause-small
-invariant_of-line-clause-small g c =
+pub invariant_of-ratio-clause-small : goal.invariant_of-ratio-clause-small
+invariant_of-ratio-clause-small g c =
     let s = c.args.slope in
     let r = c.requires.small in
     let fp : FitsSigned w128 s.num = omega (arith, ints, s.entry.low, s.entry.high) in
     simp to_z-of_z (record { low = omega (arith, ints, r.low); high = omega (arith, ints, r.high) })
 
-pub invariant_of-line-clause-factor : goal.invariant_of-line-clause-factor
-invariant_of-line-clause-factor g c =
+pub invariant_of-ratio-clause-factor : goal.invariant_of-ratio-clause-factor
+invariant_of-ratio-clause-factor g c =
     let s = c.args.slope in
     let fq : FitsSigned w128 s.den = omega (arith, ints, s.factor.low, s.factor.high) in
     let h : IsFactor (to_z w128 (of_z w128 s.den)) = simp to_z-of_z s.factor in

@@ -15,9 +15,9 @@ long g c = ap length c.as_slice.ensures.value ∙ c.set_shift.ensures.places
 
 -- it is the one that was written
 shifted : (g : given.Over) (c : In_ok-least g)
-    → c.as_slice.result.now ≡ sized_shift c.args.sizes.now c.args.line.p
+    → c.as_slice.result.now ≡ sized_shift c.args.sizes.now c.args.ratio.p
 shifted g c =
-    let s = c.args.line in
+    let s = c.args.ratio in
     let fp : FitsSigned w128 s.p = omega (arith, ints, s.small.low, s.small.high) in
     c.as_slice.ensures.value ∙ (simp to_z-of_z at c.set_shift.ensures.shift)
 
@@ -26,7 +26,7 @@ set_shift-requires-clause-sizes g c = rw c.requires.places c.requires.sizes
 
 pub set_shift-requires-clause-small : goal.set_shift-requires-clause-small
 set_shift-requires-clause-small g c =
-    let s = c.args.line in
+    let s = c.args.ratio in
     let fp : FitsSigned w128 s.p = omega (arith, ints, s.small.low, s.small.high) in
     simp to_z-of_z s.small
 
@@ -35,27 +35,27 @@ least_by-requires-clause-shifts g c = rw c.as_slice.ensures.value c.set_shift.en
 
 pub least_by-requires-clause-graph : goal.least_by-requires-clause-graph
 least_by-requires-clause-graph g c =
-    let s = c.args.line in
+    let s = c.args.ratio in
     let fq : FitsSigned w128 s.q = omega (arith, ints, s.factor.low, s.factor.high) in
     rw (long g (goal.at.least_by-requires-clause-graph g c).After-as_slice)
     (simp to_z-of_z c.requires.graph)
 
 -- the set is the least minimiser at the slope
-found : (g : given.Over) (c : In_ok-least g) → let t = g.T.Term in let s = c.args.line in
+found : (g : given.Over) (c : In_ok-least g) → let t = g.T.Term in let s = c.args.ratio in
     IsLeast (meanings t.places t.value_of c.args.terms.now) (length c.args.sizes.now) s.q
     (sized_shift c.args.sizes.now s.p) c.in_ok-least.least.set
 found g c =
-    let s = c.args.line in
+    let s = c.args.ratio in
     let fq : FitsSigned w128 s.q = omega (arith, ints, s.factor.low, s.factor.high) in
     rw (shifted g c, length-map c.args.sizes.now _) at
     (simp to_z-of_z at c.in_ok-least.ensures.least)
 
 -- and attains the least value there
-attains : (g : given.Over) (c : In_ok-least g) → let t = g.T.Term in let s = c.args.line in
+attains : (g : given.Over) (c : In_ok-least g) → let t = g.T.Term in let s = c.args.ratio in
     c.in_ok-least.least.value ≡ shifted_at (meanings t.places t.value_of c.args.terms.now) s.q
     (sized_shift c.args.sizes.now s.p) c.in_ok-least.least.set
 attains g c =
-    let s = c.args.line in
+    let s = c.args.ratio in
     let fq : FitsSigned w128 s.q = omega (arith, ints, s.factor.low, s.factor.high) in
     rw (shifted g c) at (simp to_z-of_z at c.in_ok-least.ensures.value)
 
@@ -63,7 +63,7 @@ pub worth_by-requires : goal.worth_by-requires
 worth_by-requires g c =
     let t = g.T.Term in
     let m = g.met.T.Term in
-    let s = c.args.line in
+    let s = c.args.ratio in
     let at = (goal.at.worth_by-requires g c).In_ok-least in
     let least = c.in_ok-least.least in
     record {
@@ -76,7 +76,7 @@ worth_by-requires g c =
 
 pub returns-clause-graph : goal.returns-clause-graph
 returns-clause-graph g c =
-    let s = c.args.line in
+    let s = c.args.ratio in
     let fq : FitsSigned w128 s.q = omega (arith, ints, s.factor.low, s.factor.high) in
     rw (long g (goal.at.returns-clause-graph g c).After-as_slice) at
     (simp to_z-of_z at c.in_ok-least.ensures.graph)
@@ -92,7 +92,7 @@ pub returns-clause-worth : goal.returns-clause-worth
 returns-clause-worth g c =
     let t = g.T.Term in
     let m = g.met.T.Term in
-    let s = c.args.line in
+    let s = c.args.ratio in
     let at = (goal.at.returns-clause-worth g c).In_ok-least in
     let least = c.in_ok-least.least in
     let e = c.worth_by.ensures in
