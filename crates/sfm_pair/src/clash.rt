@@ -23,10 +23,10 @@ pub enum Clash {
 }
 
 /// The most places of both.
-const MOST_PLACES: usize = 16384;
+const MOST_PAIR_PLACES: usize = 16384;
 
 /// The most that the sizes of the left and twice those of the right may add to.
-const MOST_SIZE: i128 = 1_000_000_000_000_000_000;
+const MOST_PAIR_SIZE: i128 = 1_000_000_000_000_000_000;
 
 /// Whether two instances have the same names in the same order.
 fn have_same_names(left: &Instance, right: &Instance) -> bool
@@ -83,7 +83,7 @@ fn passes_at(places: usize, size: i128, terms: &[Kind], lines: &[usize]) -> Opti
     for i in 0..terms.len() {
         all_places += terms[i].elements().len();
         all_size += 2 * terms[i].size();
-        if all_places > MOST_PLACES || all_size > MOST_SIZE {
+        if all_places > MOST_PAIR_PLACES || all_size > MOST_PAIR_SIZE {
             return Some(lines[i]);
         }
     }

@@ -7,7 +7,7 @@ use Rattle.sfm_due.proofs.Summing.{turn}
 use Rattle.sfm_pair.specs.Passing.{IsOver}
 use Rattle.sfm_pair.proofs.Placing.{IsAdded, add-places, add-size, not-over, step}
 use Rattle.sfm_pair.proofs.clash.passes_at.Goals as goal
-use Rattle.sfm_pair.proofs.clash.passes_at.Goals.{After-size, then-all_places-gt-MOST_PLACES-via-then-all_places-gt-MOST_PLACES, then-all_places-gt-MOST_PLACES-via-else-all_places-gt-MOST_PLACES+then-all_size-gt-MOST_SIZE}
+use Rattle.sfm_pair.proofs.clash.passes_at.Goals.{After-size, then-all_places-gt-MOST_PAIR_PLACES-via-then-all_places-gt-MOST_PAIR_PLACES, then-all_places-gt-MOST_PAIR_PLACES-via-else-all_places-gt-MOST_PAIR_PLACES+then-all_size-gt-MOST_PAIR_SIZE}
 
 -- what the test of a size tells
 above : (a b c : ℤ) → lt_z a b ≡ true → b ≡ c → a <ℤ c
@@ -51,14 +51,14 @@ overflow_add-all_size c =
     let fd = a.double in
     simp to_z-of_z a.sum
 
-pub returns-then-all_places-gt-MOST_PLACES : goal.returns-then-all_places-gt-MOST_PLACES
-returns-then-all_places-gt-MOST_PLACES c =
+pub returns-then-all_places-gt-MOST_PAIR_PLACES : goal.returns-then-all_places-gt-MOST_PAIR_PLACES
+returns-then-all_places-gt-MOST_PAIR_PLACES c =
     let terms = c.args.terms.now in
     let i = c.loop-i.i in
     let inv = c.loop-i.invariant in
     let fa : FitsSigned w128 c.args.size = c.ranges.size in
     let so_far = simp to_z-of_z at inv.sizes in
-    let a = added (goal.at.returns-then-all_places-gt-MOST_PLACES c).After-size in
+    let a = added (goal.at.returns-then-all_places-gt-MOST_PAIR_PLACES c).After-size in
     let fs = a.fits in
     let fd = a.double in
     let sum = a.sum in
@@ -67,12 +67,12 @@ returns-then-all_places-gt-MOST_PLACES c =
     (step terms i c.index-terms-i.result c.index-terms-i.is c.loop-i-test.true)
     (ap length c.elements.ensures) inv.places in
     let over : IsOver c.args.places c.args.size terms i =
-    elim c.then-all_places-gt-MOST_PLACES.branch [
-      | then-all_places-gt-MOST_PLACES-via-then-all_places-gt-MOST_PLACES w ↦
-          inl (subst (λ z. 16384 < z) placed w.if-all_places-gt-MOST_PLACES.true)
-      | then-all_places-gt-MOST_PLACES-via-else-all_places-gt-MOST_PLACES+then-all_size-gt-MOST_SIZE
+    elim c.then-all_places-gt-MOST_PAIR_PLACES.branch [
+      | then-all_places-gt-MOST_PAIR_PLACES-via-then-all_places-gt-MOST_PAIR_PLACES w ↦
+          inl (subst (λ z. 16384 < z) placed w.if-all_places-gt-MOST_PAIR_PLACES.true)
+      | then-all_places-gt-MOST_PAIR_PLACES-via-else-all_places-gt-MOST_PAIR_PLACES+then-all_size-gt-MOST_PAIR_SIZE
           w ↦
-          inr (above _ _ _ (simp to_z-of_z at w.if-all_size-gt-MOST_SIZE.true) a.is)
+          inr (above _ _ _ (simp to_z-of_z at w.if-all_size-gt-MOST_PAIR_SIZE.true) a.is)
     ] in
     record {
       i = i;
@@ -98,6 +98,7 @@ loop-i-preserved c =
           (step terms i c.index-terms-i.result c.index-terms-i.is c.loop-i-test.true)
           (ap length c.elements.ensures) inv.places;
       sizes = simp to_z-of_z a.is;
-      few = c.if-all_places-gt-MOST_PLACES.false;
-      small = simp to_z-of_z (not-above _ _ (simp to_z-of_z at c.if-all_size-gt-MOST_SIZE.false));
+      few = c.if-all_places-gt-MOST_PAIR_PLACES.false;
+      small = simp to_z-of_z (not-above _ _
+          (simp to_z-of_z at c.if-all_size-gt-MOST_PAIR_SIZE.false));
     }
