@@ -12,7 +12,7 @@ use Rattle.sfm_lines.specs.declared.reason.Reason.TheVariants.{Total}
 use Rattle.sfm_text.specs.Numbered.{AreNumbersOf}
 use Rattle.sfm_text.specs.declared.end.TextEnd.{TextEnd}
 use Rattle.sfm_text.specs.Language.{Language, IsFaultIn, IsRefusalIn}
-use Rattle.sfm_text.specs.GoodText.{IsFaultOf, IsTextOf, instance_language}
+use Rattle.sfm_text.specs.GoodText.{IsFaultOf, IsTextOf}
 use Rattle.sfm_due.specs.declared.due.Due.{Due}
 use Rattle.sfm_due.specs.declared.status.Status.TheVariants.{Refused}
 use Rattle.sfm_due.specs.Due.{IsAsked, Question}

@@ -1,6 +1,6 @@
 -- Two instances under edits that differ only in how their terms are kept: no reason tells them
 -- apart, and a line leads from two such to two such.
-use Rattle.std.proofs.Common.{◌≡◌, ◌≢◌, inl, inr, ℕ, zero, suc, ◌+◌, ◌-◌, ◌<◌, List, [], ◌∷◌, ◌++◌, length, take, drop, codes, replicate, Option, None, AllPairs, pos, refl, sym, ap, subst, ◌∙◌, arith}
+use Rattle.std.proofs.Common.{◌≡◌, ◌≢◌, inl, inr, ℕ, zero, suc, ◌+◌, ◌-◌, List, [], ◌∷◌, ◌++◌, length, take, drop, codes, replicate, Option, None, AllPairs, pos, refl, sym, ap, subst, ◌∙◌, arith}
 use Rattle.std.specs.List.{AllZip, remove}
 use Rattle.std.proofs.lemmas.Int.{ints}
 use Rattle.sfm_base.specs.NumberText.{IsNumber}

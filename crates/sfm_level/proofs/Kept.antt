@@ -7,7 +7,6 @@ use Rattle.std.proofs.lemmas.List.{get_or-replicate}
 use Rattle.std.proofs.lemmas.List.Elements.{All-cons, All-from_get_or, All-get_or}
 use Rattle.sfm_law.specs.declared.term.Term.{Ghosts}
 use Rattle.sfm_spec.specs.Bounds.{IsAtMost, total_of}
-use Rattle.sfm_spec.specs.Terms.{SetFunction}
 use Rattle.sfm_spec.specs.Families.{Meaning, meanings, AreTerms, base_sum_at, rest_at, deficit, even_shift}
 use Rattle.sfm_spec.specs.Walks.{IsWalkChain}
 use Rattle.sfm_exchange.specs.declared.graph.Graph.{Graph}

@@ -1,5 +1,5 @@
 -- The reasons that a term line does not have, as its parts are read one kind after another.
-use Rattle.std.proofs.Common.{◌≡◌, ◌≢◌, ◌⊎◌, inl, inr, ℕ, ◌<◌, ◌≤◌, Bool, true, false, List, [], ◌∷◌, length, get_or, slice_get, Some, Contains, AllPairs, codes, ℤ, refl, sym, ap, ◌∙◌, true≢false, arith}
+use Rattle.std.proofs.Common.{◌≡◌, ◌≢◌, ◌⊎◌, inl, inr, ℕ, ◌<◌, ◌≤◌, Bool, true, false, List, [], ◌∷◌, length, get_or, slice_get, Some, Contains, AllPairs, ℤ, refl, sym, ap, ◌∙◌, true≢false, arith}
 use Rattle.std.specs.List.{All, Any, AllZip}
 use Rattle.std.proofs.lemmas.Option.{slice_get-get_or, slice_get_within, same_Some}
 use Rattle.std.proofs.lemmas.List.Elements.{All-get_or}
@@ -23,7 +23,7 @@ use Rattle.sfm_lines.specs.TermLines.{IsNumberFor, IsElement, StandsTwice}
 use Rattle.sfm_lines.specs.Reading.{State, HasStranger, HasWrongLabel, HasSlotTwice, reason_order}
 use Rattle.sfm_lines.specs.PlainLines.{HasPlainly, FirstPlain}
 use Rattle.sfm_lines.specs.ReadParts.{state_at, IsPartsReason, IsLineOf, IsKnown, IsEntryLine}
-use Rattle.sfm_lines.proofs.WordLines.{of-term-line, not-end, shaped-here}
+use Rattle.sfm_lines.proofs.WordLines.{of-term-line, shaped-here}
 use Rattle.sfm_lines.proofs.Matches.{AllZip-at, AllZip-both, AllZip-same, length-AllZip}
 use Rattle.sfm_lines.proofs.Numbers.{from-same}
 use Rattle.sfm_lines.proofs.Colons.{none-any}

@@ -1,6 +1,6 @@
 -- Bases of all sides taken apart: the first are bases of the left sum, and the others, negated, of
 -- the right one.
-use Rattle.std.proofs.Common.{◌≡◌, ℕ, List, [], ◌∷◌, ◌++◌, length, map, take, drop, ℤ, pos, ◌≤ℤ◌, refl, sym, ap, ◌∙◌, arith}
+use Rattle.std.proofs.Common.{◌≡◌, ℕ, List, [], ◌∷◌, ◌++◌, length, map, take, drop, ℤ, pos, ◌≤ℤ◌, refl, ap, ◌∙◌, arith}
 use Rattle.std.proofs.lemmas.Int.{ints}
 use Rattle.std.proofs.lemmas.List.{take-append-drop}
 use Rattle.sfm_spec.specs.Families.{Meaning, AreTerms, AreBases}

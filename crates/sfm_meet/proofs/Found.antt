@@ -1,6 +1,6 @@
 -- What is told of two instances, by bases of all sides: of the one found by the minimum, and of
 -- bases that are given.
-use Rattle.std.proofs.Common.{◌≡◌, ℕ, ◌+◌, ◌<◌, ◌≤◌, ◌^◌, Bool, List, ◌++◌, length, map, take, drop, get_or, ℤ, pos, ◌≤ℤ◌, refl, sym, ap, subst, ◌∙◌, arith}
+use Rattle.std.proofs.Common.{◌≡◌, ℕ, ◌+◌, ◌<◌, ◌≤◌, ◌^◌, Bool, List, ◌++◌, length, map, take, drop, get_or, ℤ, pos, ◌≤ℤ◌, ap, arith}
 use Rattle.std.specs.Int.{int_min}
 use Rattle.std.specs.List.{All}
 use Rattle.std.proofs.lemmas.Int.{ints}

@@ -11,7 +11,7 @@ use Rattle.sfm_spec.proofs.Extremes.{length-complement}
 use Rattle.sfm_flip.specs.Flipped.{negated, flipped_term}
 use Rattle.sfm_spec.proofs.Scaled.{family-times, submodular-times}
 use Rattle.sfm_spec.proofs.MoveOrder.{bases-count}
-use Rattle.sfm_flip.specs.FlipLaws.{sum_over-complement, flipped-family, flipped-submodular, turned-base, turned-base_back, length-negated, negated-twice}
+use Rattle.sfm_flip.specs.FlipLaws.{sum_over-complement, flipped-family, flipped-submodular, turned-base, length-negated}
 use Rattle.sfm_meet.specs.Common.{IsCommon, IsGreatestCommon, IsLeastSplit, split_at}
 use Rattle.sfm_squares.specs.Level.{IsSumBase}
 

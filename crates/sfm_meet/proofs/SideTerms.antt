@@ -8,11 +8,11 @@ use Rattle.std.proofs.lemmas.List.Elements.{All-append, All-head, All-tail, All-
 use Rattle.std.proofs.lemmas.List.Sums.{sum_by-append, sum_by-cons}
 use Rattle.sfm_spec.specs.Sets.{IsPlaced, part}
 use Rattle.sfm_spec.specs.Bounds.{AreBounded, total_of}
-use Rattle.sfm_spec.specs.Families.{Meaning, IsAllowed, AreTerms, IsTerm, meanings}
+use Rattle.sfm_spec.specs.Families.{Meaning, AreTerms, IsTerm, meanings}
 use Rattle.sfm_spec.proofs.Tight.{is_some_of}
 use Rattle.sfm_spec.proofs.Ones.{ones-places}
 use Rattle.sfm_kind.specs.Kinds.{kind_places, kind_value, kind_size, kind-family, kind-submodular}
-use Rattle.sfm_kind.specs.Instance.{InstanceData, support_of}
+use Rattle.sfm_kind.specs.Instance.{support_of}
 use Rattle.sfm_kind.specs.Limits.{AreInBounds, total_size_of}
 use Rattle.sfm_kind.specs.declared.kind.Kind.{Kind}
 use Rattle.sfm_kind.specs.declared.kind.Kind.TheVariants.{Weight, Cut, Cover, Need, Table, Concave, Uniform, Laminar, Graphic, Transversal}
@@ -22,7 +22,7 @@ use Rattle.sfm_flip.specs.Flipped.{flipped_term}
 use Rattle.sfm_sides.specs.Sides.{side_places, side_value, side_size}
 use Rattle.sfm_sides.specs.declared.side.Side.{Side}
 use Rattle.sfm_sides.specs.declared.side.Side.TheVariants.{Left, Right}
-use Rattle.sfm_meet.specs.Meetable.{AreMeetable, HasNoNeed, IsNeed}
+use Rattle.sfm_meet.specs.Meetable.{HasNoNeed, IsNeed}
 use Rattle.sfm_meet.specs.Told.{side_terms}
 use Rattle.sfm_meet.proofs.Meeting.{AllAllowed}
 

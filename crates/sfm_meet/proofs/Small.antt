@@ -1,6 +1,6 @@
 -- How large what is told can be: the sums of bases with small entries, and what a sum of terms is
 -- at a set.
-use Rattle.std.proofs.Common.{◌≡◌, ℕ, ◌+◌, ◌*◌, ◌<◌, ◌≤◌, ◌^◌, Bool, true, false, List, [], ◌∷◌, length, map, get_or, sum, nat_eq, ℤ, pos, neg_ℤ, ◌+ℤ◌, ◌*ℤ◌, ◌≤ℤ◌, Option, Some, None, unwrap_or, if◌then◌else◌, refl, sym, ap, ◌∙◌, arith}
+use Rattle.std.proofs.Common.{◌≡◌, ℕ, ◌+◌, ◌*◌, ◌<◌, ◌≤◌, ◌^◌, Bool, true, false, List, [], ◌∷◌, length, map, get_or, sum, nat_eq, ℤ, pos, neg_ℤ, ◌≤ℤ◌, Option, Some, None, unwrap_or, if◌then◌else◌, refl, ap, arith}
 use Rattle.std.specs.Int.{int_min}
 use Rattle.std.specs.List.{All}
 use Rattle.std.proofs.Math.Nat.{mul-le-mul_left}
@@ -10,14 +10,13 @@ use Rattle.std.proofs.lemmas.List.Elements.{All-head, All-tail, All-map, All-wea
 use Rattle.std.proofs.lemmas.List.Sums.{sum_by-cons}
 use Rattle.sfm_spec.specs.Sets.{complement, part, sum_over, whole_set}
 use Rattle.sfm_spec.specs.Bounds.{IsAtMost, IsEntry, total_of}
-use Rattle.sfm_spec.specs.Families.{Meaning, meanings, sum_at, value_at, entry_at, base_sum_at}
-use Rattle.sfm_spec.proofs.Extremes.{length-complement}
+use Rattle.sfm_spec.specs.Families.{sum_at, entry_at, base_sum_at}
 use Rattle.sfm_law.proofs.Totals.{total_of-whole}
 use Rattle.sfm_kind.specs.Kinds.{kind_places, kind_value, kind_size, kind-bounded}
 use Rattle.sfm_kind.specs.Instance.{support_of}
 use Rattle.sfm_kind.specs.Limits.{total_size_of}
 use Rattle.sfm_kind.specs.declared.kind.Kind.{Kind}
-use Rattle.sfm_kind.proofs.Bounds.{kind_size-low, total_size-low}
+use Rattle.sfm_kind.proofs.Bounds.{kind_size-low}
 use Rattle.sfm_flip.specs.Flipped.{negated}
 use Rattle.sfm_meet.specs.Common.{IsLeastSplit}
 use Rattle.sfm_meet.specs.Told.{side_terms}

@@ -11,7 +11,7 @@ use Rattle.sfm_squares.specs.Level.{IsSumBase}
 use Rattle.sfm_squares.proofs.LevelLaw.{sum_is_base}
 use Rattle.sfm_flip.specs.Flipped.{negated, flipped_term}
 use Rattle.sfm_meet.specs.Common.{IsGreatestCommon, IsLeastSplit}
-use Rattle.sfm_meet.specs.Met.{MetAnswer, IsProvedMet}
+use Rattle.sfm_meet.specs.Met.{IsProvedMet}
 use Rattle.sfm_meet.proofs.Meeting.{AllAllowed, least_split, prove_back, sides_rest}
 
 -- ---- lists of values, and sums of min(z, 0)

@@ -14,7 +14,7 @@ use Rattle.sfm_lines.specs.TermLines.{IsNumberFor, IsElement, StandsTwice}
 use Rattle.sfm_lines.specs.Reading.{HasStranger}
 use Rattle.sfm_passes.specs.Passes.{Holds, IsReasonOf}
 use Rattle.sfm_lines.specs.ReadParts.{IsNumberOf}
-use Rattle.sfm_passes.specs.GroupPasses.{IsWhole, HasCap, IsOnce, AreShapedGroups, GroupFails, HasMembers, LacksMember, laminar_tokens}
+use Rattle.sfm_passes.specs.GroupPasses.{IsWhole, HasCap, AreShapedGroups, GroupFails, HasMembers, LacksMember, laminar_tokens}
 use Rattle.sfm_lines.proofs.Colons.{none-any}
 use Rattle.sfm_lines.proofs.GroupCuts.{group_tokens, groups-cut, groups-behind, groups-each}
 use Rattle.sfm_passes.proofs.LongRanks.{other-word}

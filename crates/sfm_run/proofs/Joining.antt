@@ -1,5 +1,5 @@
 -- A file is read behind others, and what is prepared behind it is prepared for the whole task.
-use Rattle.std.proofs.Common.{ℕ, List, [], ◌∷◌, Result, Ok, Err, refl, sym, ◌∙◌, ap, inl, inr}
+use Rattle.std.proofs.Common.{ℕ, List, [], ◌∷◌, Result, Ok, Err, refl, ◌∙◌, ap, inl, inr}
 use Rattle.std.specs.Prelude.{IfOk}
 use Rattle.sfm_io.specs.Faults.{Rose}
 use Rattle.sfm_io.specs.Shelf.{ShelfState, KeepsShelf}

@@ -1,12 +1,12 @@
 -- Multiples of bases: the same walks lead at them, and what is moved and what is left is multiplied
 -- with them.
-use Rattle.std.proofs.Common.{◌≡◌, ◌↔◌, ⊎_elim, inr, ℕ, zero, suc, ◌<◌, Bool, true, false, List, [], ◌∷◌, length, map, get_or, set, nat_eq, ℤ, pos, ◌+ℤ◌, ◌-ℤ◌, ◌*ℤ◌, ◌≤ℤ◌, if◌then◌else◌, refl, sym, ap, subst, ◌∙◌, arith}
+use Rattle.std.proofs.Common.{◌≡◌, ◌↔◌, ⊎_elim, inr, ℕ, zero, ◌<◌, Bool, true, false, List, [], ◌∷◌, length, map, get_or, set, nat_eq, ℤ, pos, ◌+ℤ◌, ◌-ℤ◌, ◌*ℤ◌, ◌≤ℤ◌, if◌then◌else◌, sym, ap, subst, ◌∙◌, arith}
 use Rattle.std.proofs.Math.IntN.{*ℤ-zero}
 use Rattle.std.proofs.Math.ListN.{get_or-map}
 use Rattle.std.proofs.lemmas.Int.{ints}
 use Rattle.std.proofs.lemmas.List.{length-map, map-set}
 use Rattle.sfm_spec.specs.Terms.{SetFunction, times, IsBase, HasRoom, exchanged}
-use Rattle.sfm_spec.specs.Families.{Meaning, AreTerms, AreBases, entry_at, base_sum_at, rest_at}
+use Rattle.sfm_spec.specs.Families.{Meaning, AreTerms, AreBases, base_sum_at, rest_at}
 use Rattle.sfm_spec.specs.Rows.{Depends}
 use Rattle.sfm_spec.specs.Walks.{Step, term_at, base_at, CanMove, IsStep, AreSteps, AllCanMove, IsWalkMove, change_at}
 use Rattle.sfm_spec.proofs.Scaled.{times-add, times-mono, times-sub}

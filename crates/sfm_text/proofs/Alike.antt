@@ -1,7 +1,7 @@
 -- What a line of an instance text leads to is one state, but for how its terms are kept: states of
 -- the same stage and the same names, whose terms are one by one the same, are told apart by no
 -- reason, and a line leads from two such states to two such.
-use Rattle.std.proofs.Common.{◌≡◌, ◌≢◌, inl, inr, ℕ, ◌+◌, List, [], ◌∷◌, ◌++◌, length, get_or, codes, AllPairs, Option, ℤ, refl, sym, ap, subst, ◌∙◌, arith}
+use Rattle.std.proofs.Common.{◌≡◌, ◌≢◌, inl, inr, ℕ, ◌+◌, List, [], ◌∷◌, length, get_or, codes, AllPairs, Option, ℤ, refl, sym, ap, subst, ◌∙◌, arith}
 use Rattle.std.specs.List.{AllZip}
 use Rattle.std.proofs.lemmas.Int.{ints}
 use Rattle.sfm_kind.specs.declared.kind.Kind.{Kind}

@@ -1,11 +1,10 @@
 -- A rank line without the weights of its elements is a line of its own: of good bytes, and with no
 -- more of them in its tokens.
-use Rattle.std.proofs.Common.{◌≡◌, ◌≢◌, ℕ, ◌+◌, ◌<◌, ◌≤◌, Bool, true, false, cond, List, [], ◌∷◌, ◌++◌, length, map, get_or, codes, Option, Some, None, inl, inr, refl, sym, ap, subst, ◌∙◌, arith, length-append}
+use Rattle.std.proofs.Common.{◌≡◌, ℕ, ◌+◌, ◌≤◌, Bool, true, false, cond, List, [], ◌∷◌, ◌++◌, length, map, get_or, codes, Option, Some, None, inl, inr, refl, sym, ap, subst, ◌∙◌, arith, length-append}
 use Rattle.std.specs.List.{All, Any, AllZip, slice_split, onto_first}
 use Rattle.std.proofs.lemmas.List.{get_or_default}
-use Rattle.std.proofs.lemmas.List.Elements.{All-nil, All-cons, All-head, All-tail, All-append, All-filter, All-from_get_or}
+use Rattle.std.proofs.lemmas.List.Elements.{All-nil, All-cons, All-head, All-tail, All-append, All-filter}
 use Rattle.sfm_lines.specs.Lines.{has_bytes, tokens_of}
-use Rattle.sfm_lines.specs.Parts.{IsCutAt}
 use Rattle.sfm_lines.specs.Tokens.{is_blank}
 use Rattle.sfm_lines.specs.Weights.{IsWeighed, IsUnweighed}
 use Rattle.sfm_lines.specs.Words.{word_text}

@@ -1,5 +1,5 @@
 -- What a term line leads to, and that there is too much with it.
-use Rattle.std.proofs.Common.{◌≡◌, ◌≢◌, ℕ, List, [], ◌∷◌, ◌++◌, length, AllPairs, Option, Some, None, ℤ, refl, inr, arith}
+use Rattle.std.proofs.Common.{◌≢◌, ℕ, List, [], ◌∷◌, ◌++◌, length, AllPairs, Option, Some, None, ℤ, refl, inr, arith}
 use Rattle.std.specs.Prelude.{is_some, if◌then◌else◌}
 use Rattle.sfm_kind.specs.Instance.{InstanceData}
 use Rattle.sfm_kind.specs.Kinds.{kind_places, kind_size}

@@ -1,6 +1,6 @@
 -- What a rank line with weights gives to those that make its layers, and that its layers keep the
 -- bounds.
-use Rattle.std.proofs.Common.{◌≡◌, ◌≢◌, ◌⊎◌, ◌↔◌, inl, inr, ⊎_elim, ℕ, ◌+◌, ◌<◌, ◌≤◌, ◌^◌, Bool, List, [], ◌∷◌, ◌++◌, length, map, codes, AllPairs, Option, Some, None, ℤ, pos, ◌+ℤ◌, ◌*ℤ◌, ◌≤ℤ◌, ◌<ℤ◌, refl, sym, ap, subst, ◌∙◌, arith, length-append}
+use Rattle.std.proofs.Common.{◌≡◌, ◌≢◌, ◌⊎◌, inl, inr, ⊎_elim, ℕ, ◌+◌, ◌<◌, ◌≤◌, ◌^◌, List, [], ◌∷◌, ◌++◌, length, map, codes, AllPairs, Option, Some, None, ℤ, pos, ◌+ℤ◌, ◌*ℤ◌, ◌≤ℤ◌, refl, sym, ap, subst, ◌∙◌, arith}
 use Rattle.std.specs.List.{All, AllZip, flat_map}
 use Rattle.std.proofs.lemmas.Bool.{cases_lt}
 use Rattle.std.proofs.lemmas.Int.{ints, by_lt_z}
@@ -8,7 +8,6 @@ use Rattle.std.proofs.lemmas.List.{length-map, append-nil}
 use Rattle.std.proofs.lemmas.List.Elements.{All-nil, All-cons, All-head, All-tail, All-from_get_or}
 use Rattle.sfm_spec.specs.Sets.{whole_set}
 use Rattle.sfm_layers.specs.Weights.{IsGreatestWeight}
-use Rattle.sfm_layers.proofs.Ones.{greatest-one}
 use Rattle.sfm_kind.specs.Instance.{support_of}
 use Rattle.sfm_kind.specs.Layers.{IsRankKind, AreLayers, Brings, IsWeight}
 use Rattle.sfm_kind.specs.Limits.{AreInBounds, total_size_of}
@@ -20,14 +19,14 @@ use Rattle.sfm_kind.proofs.Bounds.{total_size-low}
 use Rattle.sfm_kind.proofs.Brought.{AreWeightsOf, brings-one, layers-fit}
 use Rattle.sfm_kind.proofs.OneLine.{AreOneRank, greatest-alike}
 use Rattle.sfm_lines.specs.declared.word.RankKind.{RankKind}
-use Rattle.sfm_lines.specs.declared.word.RankKind.TheVariants.{UniformRank, LaminarRank, GraphicRank, TransversalRank}
+use Rattle.sfm_lines.specs.declared.word.RankKind.TheVariants.{GraphicRank, TransversalRank}
 use Rattle.sfm_lines.specs.declared.word.TermWord.TheVariants.{RankWord}
-use Rattle.sfm_lines.specs.Parts.{LineParts, IsSeparator, HaveNoSeparator, IsCutAt, IsLabelToken, IsUniformLine, IsLaminarLine, IsLabelledLine}
+use Rattle.sfm_lines.specs.Parts.{LineParts, IsSeparator, HaveNoSeparator, IsLabelToken, IsUniformLine, IsLaminarLine, IsLabelledLine}
 use Rattle.sfm_lines.specs.RankLines.{IsRankMadeOf}
 use Rattle.sfm_lines.specs.Reading.{AreTooMuch, Says}
-use Rattle.sfm_lines.specs.TermLines.{IsElement, StandsFor}
+use Rattle.sfm_lines.specs.TermLines.{IsElement}
 use Rattle.sfm_lines.specs.Versions.{most_size}
-use Rattle.sfm_lines.specs.Weights.{IsUnweighed, IsPlainLine, IsWeightText}
+use Rattle.sfm_lines.specs.Weights.{IsUnweighed, IsWeightText}
 use Rattle.sfm_lines.specs.Words.{word_text, HasParts, IsMadeOf}
 use Rattle.sfm_lines.proofs.Colons.{no-colon}
 use Rattle.sfm_lines.proofs.Cutting.{front-same, uncut}

@@ -1,7 +1,7 @@
 -- What has been read of a line without weights is said of the line with them, and its first reason
 -- is that of this line.
-use Rattle.std.proofs.Common.{◌≡◌, ◌≢◌, ◌⊎◌, inl, inr, ℕ, ◌<◌, ◌≤◌, List, [], ◌∷◌, length, get_or, codes, Option, Some, None, Result, Ok, Err, IfOk, IfErr, ℤ, refl, sym, ap, subst, ◌∙◌, arith}
-use Rattle.std.specs.List.{All, Any}
+use Rattle.std.proofs.Common.{◌≡◌, ◌≢◌, ◌⊎◌, inl, inr, ℕ, List, [], ◌∷◌, codes, Option, None, Result, Ok, Err, IfOk, IfErr, ℤ, refl, sym, ap, subst, ◌∙◌, arith}
+use Rattle.std.specs.List.{All}
 use Rattle.std.proofs.lemmas.List.Elements.{All-nil}
 use Rattle.sfm_kind.specs.Instance.{InstanceData}
 use Rattle.sfm_kind.specs.declared.kind.Kind.{Kind}
@@ -16,8 +16,8 @@ use Rattle.sfm_lines.specs.declared.word.TermWord.TheVariants.{RankWord}
 use Rattle.sfm_lines.specs.Lines.{tokens_of}
 use Rattle.sfm_lines.specs.Words.{word_text}
 use Rattle.sfm_lines.specs.Weights.{IsPlainLine, IsUnweighed, IsWeightText, AreWeights}
-use Rattle.sfm_lines.specs.Reading.{HasReason, HasPlain, FirstReason, IsLineRefusal, reason_order}
-use Rattle.sfm_lines.specs.PlainLines.{HasPlainly, FirstPlain, IsPlainRefusal}
+use Rattle.sfm_lines.specs.Reading.{HasPlain, reason_order}
+use Rattle.sfm_lines.specs.PlainLines.{FirstPlain}
 use Rattle.sfm_lines.specs.ReadParts.{state_at, IsLineOf, IsTermRead}
 use Rattle.sfm_lines.proofs.WordLines.{word_text-same, not-end}
 use Rattle.sfm_passes.specs.GroupPasses.{IsRefusedBy}

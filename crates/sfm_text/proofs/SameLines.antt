@@ -1,19 +1,13 @@
 -- Two readings of one term line say one term and the same weights.
-use Rattle.std.proofs.Common.{◌≡◌, ◌≢◌, inl, inr, ℕ, ◌<◌, List, [], ◌∷◌, ◌++◌, length, AllPairs, Bool, Option, Some, None, ℤ, pos, ◌≤ℤ◌, refl, sym, ap, subst, ◌∙◌, arith}
+use Rattle.std.proofs.Common.{◌≡◌, ◌≢◌, inl, inr, ℕ, List, [], ◌∷◌, ◌++◌, length, AllPairs, Option, Some, None, ℤ, pos, ◌≤ℤ◌, refl, sym, ap, subst, ◌∙◌, arith}
 use Rattle.std.specs.Prelude.{IsSome}
 use Rattle.std.specs.List.{All, Any, AllZip}
 use Rattle.std.proofs.lemmas.Int.{ints}
 use Rattle.std.proofs.lemmas.Bool.{false≢true}
-use Rattle.sfm_spec.specs.Sets.{size as set_size}
-use Rattle.sfm_spec.specs.Kinds.{Group, Edge, IsWithinCaps, IsForest, IsMatchable}
 use Rattle.sfm_kind.specs.Layers.{AreTermsOf, Brings}
-use Rattle.sfm_kind.specs.Meanings.{kind_places}
-use Rattle.sfm_kind.specs.declared.kind.Kind.TheVariants.{Uniform, Laminar, Graphic, Transversal}
 use Rattle.sfm_kind.proofs.OneLine.{AreOneRank, AreOneLayer, layers-one}
 use Rattle.sfm_kind.specs.declared.kind.Kind.{Kind}
 use Rattle.sfm_kind.specs.declared.version.Version.{Version}
-use Rattle.sfm_lines.specs.declared.word.RankKind.{RankKind}
-use Rattle.sfm_lines.specs.declared.word.RankKind.TheVariants.{UniformRank, LaminarRank, GraphicRank, TransversalRank}
 use Rattle.sfm_lines.specs.declared.word.TermWord.{TermWord}
 use Rattle.sfm_lines.specs.declared.word.TermWord.TheVariants.{RankWord}
 use Rattle.sfm_lines.specs.Parts.{LineParts}

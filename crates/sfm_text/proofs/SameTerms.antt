@@ -1,32 +1,26 @@
 -- Two terms that one line stands for are one: a line tells all that a term says of itself.
-use Rattle.std.proofs.Common.{◌≡◌, ◌≢◌, ◌↔◌, ℕ, ◌+◌, ◌<◌, ◌≤◌, inl, inr, List, [], ◌∷◌, ◌++◌, length, get_or, AllPairs, Bool, None, ℤ, pos, ◌+ℤ◌, ◌≤ℤ◌, refl, sym, ap, subst, ◌∙◌, arith}
+use Rattle.std.proofs.Common.{◌≡◌, ◌≢◌, ◌↔◌, ℕ, ◌+◌, ◌<◌, ◌≤◌, inl, inr, List, [], ◌∷◌, ◌++◌, length, get_or, AllPairs, None, ℤ, ◌+ℤ◌, refl, sym, ap, subst, ◌∙◌, arith}
 use Rattle.std.specs.List.{AllZip}
 use Rattle.std.proofs.lemmas.Int.{ints, by_lt_z}
 use Rattle.std.proofs.lemmas.Bool.{cases_lt}
 use Rattle.std.proofs.lemmas.Option.{slice_get_within}
 use mathlib.Core.Logic.{⊎_elim}
-use Rattle.sfm_spec.specs.Sets.{IsPlaced, size as set_size}
-use Rattle.sfm_spec.specs.Kinds.{Group, Edge, IsWithinCaps, IsForest, IsMatchable}
-use Rattle.sfm_spec.specs.Laws.{ones}
+use Rattle.sfm_spec.specs.Sets.{IsPlaced}
 use Rattle.sfm_spec.specs.Terms.{SetFunction}
 use Rattle.sfm_spec.specs.Families.{Meaning}
-use Rattle.sfm_kind.specs.Meanings.{kind_places, IsIndependentIn, IsValueOf, IsMeaningOf}
-use Rattle.sfm_layers.specs.Weights.{IsWeightedRank}
+use Rattle.sfm_kind.specs.Meanings.{kind_places, IsValueOf, IsMeaningOf}
 use Rattle.sfm_kind.specs.Instance.{support_of}
 use Rattle.sfm_kind.specs.Kinds.{kind_size}
 use Rattle.sfm_kind.specs.Layers.{Brings}
 use Rattle.sfm_kind.specs.Limits.{AreInBounds, total_size_of}
 use Rattle.sfm_kind.specs.declared.kind.Kind.{Kind}
 use Rattle.sfm_kind.specs.declared.version.Version.{Version}
-use Rattle.sfm_kind.specs.declared.kind.Kind.TheVariants.{Weight, Cut, Need, Cover, Table, Concave, Uniform, Laminar, Graphic, Transversal}
+use Rattle.sfm_kind.specs.declared.kind.Kind.TheVariants.{Weight, Cut, Need, Cover, Table, Concave}
 use Rattle.sfm_kind.proofs.Bounds.{kind-elements, in_bounds-push}
 use Rattle.sfm_lines.specs.Parts.{LineParts}
 use Rattle.sfm_lines.specs.Versions.{most_size}
 use Rattle.sfm_lines.specs.Words.{IsMadeOf}
 use Rattle.sfm_lines.specs.ReadParts.{IsTermOf}
-use Rattle.sfm_lines.specs.RankLines.{IsRankMadeOf}
-use Rattle.sfm_lines.specs.declared.word.RankKind.{RankKind}
-use Rattle.sfm_lines.specs.declared.word.RankKind.TheVariants.{UniformRank, LaminarRank, GraphicRank, TransversalRank}
 use Rattle.sfm_lines.specs.TermLines.{IsNumberFor, IsElement, StandsFor}
 use Rattle.sfm_lines.specs.Reading.{AreTooMuch}
 use Rattle.sfm_text.specs.OneTerm.{AreOneTerm}

@@ -1,6 +1,6 @@
 -- The reasons of a term line are those of its line without weights, but for what stands in the
 -- place of a weight.
-use Rattle.std.proofs.Common.{◌≡◌, ◌≢◌, ◌⊎◌, inl, inr, ℕ, ◌<◌, ◌≤◌, List, [], ◌∷◌, length, codes, Option, Some, None, ℤ, refl, sym, ap, subst, ◌∙◌, arith}
+use Rattle.std.proofs.Common.{◌≡◌, ◌≢◌, ◌⊎◌, inl, inr, ℕ, ◌<◌, ◌≤◌, List, [], ◌∷◌, codes, Option, ℤ, refl, sym, ap, subst, ◌∙◌, arith}
 use Rattle.std.specs.List.{Any}
 use Rattle.sfm_kind.specs.Instance.{InstanceData}
 use Rattle.sfm_lines.specs.declared.reason.Reason.{Reason}

@@ -6,7 +6,7 @@ use Rattle.std.specs.List.{All, Any, AllZip, position_or_len}
 use Rattle.std.proofs.lemmas.Bool.{eqb-true}
 use Rattle.std.proofs.lemmas.List.{append-nil}
 use Rattle.std.proofs.lemmas.List.Elements.{All-nil, All-cons, All-head, All-tail}
-use Rattle.sfm_lines.specs.Parts.{IsSeparator, IsCutAt}
+use Rattle.sfm_lines.specs.Parts.{IsCutAt}
 use Rattle.sfm_lines.specs.Tokens.{is_blank}
 use Rattle.sfm_lines.specs.Weights.{IsWeighed, IsUnweighed, IsWeightText}
 use Rattle.sfm_lines.proofs.Cutting.{front-same, first-at, none-at, cut-at, uncut}

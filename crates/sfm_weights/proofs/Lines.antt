@@ -1,8 +1,7 @@
 -- A term line has one line without weights, and one list of elements with the texts of their
 -- weights.
-use Rattle.std.proofs.Common.{◌≡◌, ◌≢◌, inl, inr, ℕ, List, [], ◌∷◌, Option, refl, sym, ap, subst, ◌∙◌}
+use Rattle.std.proofs.Common.{◌≡◌, inl, inr, ℕ, List, ◌∷◌, Option, sym, ap, subst, ◌∙◌}
 use Rattle.sfm_kind.specs.declared.version.Version.{Version}
-use Rattle.sfm_kind.specs.declared.version.Version.TheVariants.{Second}
 use Rattle.sfm_lines.specs.declared.word.TermWord.TheVariants.{RankWord}
 use Rattle.sfm_lines.specs.Words.{word_text}
 use Rattle.sfm_lines.specs.Weights.{IsUnweighed, IsPlainLine}

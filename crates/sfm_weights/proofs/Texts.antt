@@ -1,5 +1,5 @@
 -- What is told of the text of a weight is told of the entry of a token.
-use Rattle.std.proofs.Common.{◌≡◌, ◌↔◌, ℕ, ◌^◌, List, Bool, Bor, Option, Some, None, MatchBool, MatchOption, ℤ, pos, ◌≤ℤ◌, to_z, of_z, refl, sym, ap, ◌∙◌, arith}
+use Rattle.std.proofs.Common.{◌≡◌, ◌↔◌, ℕ, ◌^◌, List, Bool, Bor, Option, Some, None, MatchBool, MatchOption, ℤ, pos, ◌≤ℤ◌, to_z, of_z, refl, ap, ◌∙◌, arith}
 use Rattle.std.specs.Prelude.{is_some, IsSome, unwrap_or}
 use Rattle.std.specs.Int.{w128}
 use Rattle.std.proofs.lemmas.Int.{ints}

@@ -1,4 +1,4 @@
-use Rattle.std.proofs.Common.{◌≡◌, ℕ, ◌-◌, ◌++◌, List, ◌∷◌, length, replicate, codes, Option, None, ap, ◌∙◌, arith}
+use Rattle.std.proofs.Common.{◌≡◌, ◌-◌, ◌++◌, List, ◌∷◌, length, replicate, codes, None, ap, ◌∙◌, arith}
 use Rattle.sfm_kind.specs.declared.kind.Kind.{Kind}
 use Rattle.sfm_lines.specs.Lines.{tokens_of}
 use Rattle.sfm_edit.specs.EditLines.{editing_of, IsEditRefusal}

@@ -1,5 +1,5 @@
 -- The terms of the line are taken out of the instance, and their origins out of the list of these.
-use Rattle.std.proofs.Common.{◌≡◌, ℕ, suc, ◌+◌, ◌<◌, ◌≤◌, ◌++◌, List, length, take, drop, ap, subst, ◌∙◌, arith}
+use Rattle.std.proofs.Common.{ℕ, ◌+◌, ◌<◌, ◌++◌, List, length, take, drop, ap, subst, ◌∙◌, arith}
 use Rattle.std.proofs.lemmas.List.{length-map}
 use Rattle.sfm_kind.specs.Instance.{terms_in}
 use Rattle.sfm_kind.specs.Meanings.{kind_places}

@@ -1,5 +1,5 @@
 -- One more is taken out at the same place.
-use Rattle.std.proofs.Common.{arith, remove, ap, sym, length-append, ◌∙◌}
+use Rattle.std.proofs.Common.{arith, remove, ap, ◌∙◌}
 use Rattle.sfm_kind.proofs.Removed.{cut_out-more}
 use Rattle.sfm_edit.proofs.origins.take_out.Goals as goal
 

@@ -1,4 +1,4 @@
-use Rattle.std.proofs.Common.{length, ◌∙◌, arith}
+use Rattle.std.proofs.Common.{◌∙◌, arith}
 use Rattle.sfm_spec.specs.Families.{meanings}
 use Rattle.sfm_spec.proofs.Walks.{bases-at}
 use Rattle.sfm_law.specs.Rest.{IsRest}

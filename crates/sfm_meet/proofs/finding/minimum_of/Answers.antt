@@ -1,4 +1,4 @@
-use Rattle.std.proofs.Common.{◌≡◌, map, ap, ◌∙◌}
+use Rattle.std.proofs.Common.{◌≡◌, ap, ◌∙◌}
 use Rattle.sfm_spec.specs.Families.{meanings}
 use Rattle.sfm_sides.specs.Sides.{side_places, side_value}
 use Rattle.sfm_meet.specs.Both.{both_terms}

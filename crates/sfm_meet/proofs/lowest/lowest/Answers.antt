@@ -1,10 +1,9 @@
-use Rattle.std.proofs.Common.{◌≡◌, ℕ, ◌*◌, ◌^◌, List, length, map, replicate, ℤ, pos, ◌≤ℤ◌, rules, refl, ap, ◌∙◌, arith}
+use Rattle.std.proofs.Common.{◌≡◌, ◌*◌, ◌^◌, length, replicate, ℤ, pos, ◌≤ℤ◌, rules, refl, ap, arith}
 use Rattle.std.specs.List.{All}
 use Rattle.std.proofs.lemmas.Int.{ints}
 use Rattle.std.proofs.lemmas.List.{length-replicate}
 use Rattle.sfm_spec.specs.Sets.{magnitudes}
 use Rattle.sfm_spec.specs.Bounds.{IsAtMost, IsFactor}
-use Rattle.sfm_spec.specs.Families.{meanings, even_shift, IsLeast, Prove}
 use Rattle.sfm_exchange.proofs.ClaimedGraphs.{whole_claimed}
 use Rattle.sfm_walk.proofs.Spreads.{small_after, spread_in_all}
 use Rattle.sfm_walk.proofs.Starting.{sizes_bounded, starts_bounded, starts_plain_bounded, magnitudes_none}

@@ -1,5 +1,5 @@
 -- the numbers so far, with their signs turned
-use Rattle.std.proofs.Common.{◌≡◌, map, take}
+use Rattle.std.proofs.Common.{◌≡◌, take}
 use Rattle.sfm_flip.specs.Flipped.{negated}
 use Rattle.sfm_meet.proofs.sides.turned.Given as goal
 

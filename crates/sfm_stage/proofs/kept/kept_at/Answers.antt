@@ -1,5 +1,4 @@
-use Rattle.std.proofs.Common.{◌≡◌, inl, length, subst, sym, ap}
-use Rattle.sfm_exchange.specs.Sums.{AreSums}
+use Rattle.std.proofs.Common.{inl}
 use Rattle.sfm_walk.proofs.Resting.{rest_is}
 use Rattle.sfm_stage.proofs.kept.kept_at.Goals as goal
 

@@ -1,11 +1,11 @@
 -- A rank line with weights adds the layers of its term, where there is not too much with what it
 -- brings.
-use Rattle.std.proofs.Common.{rules, length, refl, FitsSigned, ◌∷◌}
+use Rattle.std.proofs.Common.{rules, length, refl, FitsSigned}
 use Rattle.std.proofs.lemmas.Bool.{false≢true}
 use Rattle.std.proofs.lemmas.Int.{to_z-of_z}
 use mir.Syntax.{w128}
 use Rattle.sfm_text.proofs.LaterLines.{later-much, later-layers}
-use Rattle.sfm_text.proofs.LayerLines.{IsWeighedRank, weighed-rank, layers-small, layers-bounded}
+use Rattle.sfm_text.proofs.LayerLines.{weighed-rank, layers-small, layers-bounded}
 use Rattle.sfm_text.proofs.added.add_layered.Goals as goal
 
 pub weigh-requires-clause-each : goal.weigh-requires-clause-each

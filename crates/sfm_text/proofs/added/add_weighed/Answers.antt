@@ -1,8 +1,7 @@
 -- A rank line is cut into its line without weights and these, and says the term of the one with the
 -- others.
-use Rattle.std.proofs.Common.{◌≡◌, ◌∷◌, ◌<◌, ◌^◌, None, Some, arith}
+use Rattle.std.proofs.Common.{◌∷◌, None, Some, arith}
 use Rattle.sfm_lines.specs.Lines.{tokens_of}
-use Rattle.sfm_lines.specs.ReadParts.{bytes_in}
 use Rattle.sfm_lines.specs.Words.{word_text}
 use Rattle.sfm_lines.specs.declared.word.TermWord.TheVariants.{RankWord}
 use Rattle.sfm_text.proofs.BareLines.{plain-bytes}

@@ -1,6 +1,6 @@
 -- A rank line is refused by its shape first, then by what stands in the place of a weight, and then
 -- as without weights.
-use Rattle.std.proofs.Common.{ℕ, List, Option, ℤ}
+use Rattle.std.proofs.Common.{ℤ}
 use Rattle.std.specs.List.{All}
 use Rattle.sfm_lines.specs.Lines.{tokens_of}
 use Rattle.sfm_lines.specs.Weights.{IsWeightText}

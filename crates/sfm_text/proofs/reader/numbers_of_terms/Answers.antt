@@ -1,5 +1,5 @@
 -- Each number of a term line is put once for each term of its line.
-use Rattle.std.proofs.Common.{◌≡◌, ◌++◌, replicate, sym, ◌∙◌, arith}
+use Rattle.std.proofs.Common.{sym, ◌∙◌, arith}
 use Rattle.sfm_text.proofs.ForTerms.{width-is, past-min, for_terms-more, for_terms-all}
 use Rattle.sfm_text.proofs.reader.numbers_of_terms.Goals as goal
 

@@ -1,4 +1,4 @@
-use Rattle.std.proofs.Common.{◌-◌, get_or, sym, ◌∙◌, arith}
+use Rattle.std.proofs.Common.{◌-◌, get_or, ◌∙◌, arith}
 use Rattle.std.proofs.lemmas.List.{get_or_default}
 use Rattle.sfm_base.proofs.Rowing.{LiesAt, begin_at, lies_at}
 use Rattle.sfm_base.proofs.lists.Lists.at.Goals as goal

@@ -1,4 +1,4 @@
-use Rattle.std.proofs.Common.{length, sym, ap, arith}
+use Rattle.std.proofs.Common.{length, ap, arith}
 use Rattle.sfm_base.proofs.Rowing.{length-rows}
 use Rattle.sfm_base.proofs.lists.Lists.len.Goals as goal
 

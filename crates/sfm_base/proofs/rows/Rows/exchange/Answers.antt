@@ -1,4 +1,4 @@
-use Rattle.std.proofs.Common.{◌≡◌, ◌≢◌, ◌-◌, ◌+◌, ◌^◌, [], length, get_or, ℤ, pos, ◌+ℤ◌, ◌-ℤ◌, sym, ◌∙◌, arith, FitsSigned, get_or-set_other}
+use Rattle.std.proofs.Common.{◌≡◌, ◌≢◌, ◌-◌, ◌+◌, [], length, get_or, ℤ, pos, ◌+ℤ◌, ◌-ℤ◌, sym, ◌∙◌, arith, FitsSigned, get_or-set_other}
 use Rattle.std.proofs.lemmas.List.{get_or_default}
 use Rattle.std.proofs.lemmas.Int.{ints, to_z-of_z}
 use mir.Syntax.{w128}
