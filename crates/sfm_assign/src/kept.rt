@@ -7,7 +7,7 @@
 ghost use Rattle.std.specs.{Prelude.{◌≡◌, ◌↔◌, ℕ, ◌<◌, ◌≤◌, true, false, length, map, slice_set, pos, ◌*ℤ◌, ◌+ℤ◌, ◌≤ℤ◌, ◌<ℤ◌, IsTrue, IfOk, OnOk, OnErr, MatchResult, MatchBool, None, []}, List.{All}};
 ghost use Rattle.sfm_spec.specs.Sets.{Has};
 ghost use Rattle.sfm_cells.specs.{Splits.{amount_at, CanBeMet, IsAmount, IsCapacity, AreDemands}, Cells.{AreMet}, Left.{AreLeft}, Lenders.{IsLender, with_more, IsMostUpto}};
-ghost use Rattle.sfm_split.specs.{Ends.{IsAssignEnd}, Grown.{IsGrown}};
+ghost use Rattle.sfm_split.specs.{Changes.{changed, changed_demands, AreChanges, IsEnded}, Ends.{IsAssignEnd}, Grown.{IsGrown}};
 ghost use Rattle.sfm_assign.specs.Spread.{answer_at, AreAnswers, AreAsking, LeadsToRoom, AreLedTo};
 
 use crate::gather::{Standing, gather};
@@ -15,7 +15,9 @@ use crate::spread::Spread;
 use crate::told::Told;
 use sfm_base::{Memory, Set};
 use sfm_cells::{Demand, Shares, copy_times, left_of};
-use sfm_split::{Aim, AssignEnd, Work, begin, find_amounts, met_shares, raise_most};
+use sfm_split::{
+    Aim, AssignEnd, Change, Steps, Work, begin, find_amounts, find_changed, met_shares, raise_most,
+};
 use std::alloc::Global;
 use std::mem;
 
@@ -64,6 +66,16 @@ fn write_asking(demands: &[i128], to: &mut Set)
 {
     for v in 0..demands.len() {
         to.put(v, asks(demands, v));
+    }
+}
+
+/// Changes demands one after another.
+fn change_all(demand: &mut Demand, changes: &[Change])
+    requires { AreChanges changes.now demand.old.demands }
+    ensures { demand.new ≡ changed_demands changes.now demand.old.capacities demand.old }
+{
+    for change in changes {
+        demand.raise(change.k, change.more);
     }
 }
 
@@ -338,64 +350,50 @@ impl Kept {
         }
     }
 
-    /// Finds amounts by which other demands are met, which can be, over the same lists and with other capacities.
-    fn find_met(&self, alloc: Global, work: &mut Work, aim: &Aim) -> Result<(), Memory>
-        requires sized { length aim.now.demands.now ≡ length self.now.demand.demands }
-        requires slots { length aim.now.capacities.now ≡ length self.now.demand.capacities }
-        requires sound { AreDemands (record {
-          demands = aim.now.demands.now;
-          lists = self.now.demand.lists;
-          capacities = aim.now.capacities.now;
-        }) }
-        requires can { CanBeMet aim.now.demands.now self.now.demand.lists aim.now.capacities.now }
-        ensures met { OnOk result (AreMet (record {
-          demands = aim.now.demands.now;
-          lists = self.now.demand.lists;
-          capacities = aim.now.capacities.now;
-        })
-            self.now.shares.cells.whos.items self.now.shares.cells.slots.items work.new.y.items) }
-        ensures lacks { OnOk result (AreLeft aim.now.demands.now self.now.shares.cells.whos.items
-            work.new.y.items work.new.left.lacks.items) }
-        ensures rooms { OnOk result (AreLeft aim.now.capacities.now
-            self.now.shares.cells.slots.items work.new.y.items work.new.left.rooms.items) }
+    /// Finds amounts by which demands are met of which some change, with other capacities; they can be met.
+    fn find_met(&self, alloc: Global, work: &mut Work, steps: &Steps) -> Result<(), Memory>
+        requires changes { AreChanges steps.now.changes.now self.now.demand.demands }
+        requires slots { length steps.now.capacities.now ≡ length self.now.demand.capacities }
+        requires bounded { All IsCapacity steps.now.capacities.now }
+        requires can { CanBeMet (changed steps.now.changes.now self.now.demand.demands)
+            self.now.demand.lists steps.now.capacities.now }
+        ensures { OnOk result (IsEnded (changed_demands steps.now.changes.now
+            steps.now.capacities.now self.now.demand) self.now.shares.cells.whos.items
+            self.now.shares.cells.slots.items work.new.y.items work.new.left.lacks.items
+            work.new.left.rooms.items) }
     {
-        match find_amounts(alloc, work, &self.demand, &self.shares, &self.rooms, aim) {
+        match find_changed(alloc, work, &self.demand, &self.shares, &self.rooms, steps) {
             Ok(()) => Ok(()),
             Err(AssignEnd::Shortage { .. }) => unreachable!(),
             Err(AssignEnd::Memory) => Err(Memory),
         }
     }
 
-    /// Finds amounts by which other demands are met, over the same lists and with other capacities, and the demand u gets as much more
-    /// as it can, up to a limit; tells how much. The other demands can be met.
+    /// Finds amounts by which demands are met of which some change, with other capacities, and the demand u gets as much more as it
+    /// can, up to a limit; tells how much. The demands without that can be met.
     fn find_raised(
         &self,
         alloc: Global,
         work: &mut Work,
-        aim: &Aim,
+        steps: &Steps,
         u: usize,
         limit: i128,
     ) -> Result<i128, Memory>
-        requires sized { length aim.now.demands.now ≡ length self.now.demand.demands }
-        requires slots { length aim.now.capacities.now ≡ length self.now.demand.capacities }
-        requires sound { AreDemands (record {
-          demands = aim.now.demands.now;
-          lists = self.now.demand.lists;
-          capacities = aim.now.capacities.now;
-        }) }
-        requires met { CanBeMet aim.now.demands.now self.now.demand.lists aim.now.capacities.now }
-        requires place { u < length aim.now.demands.now }
+        requires changes { AreChanges steps.now.changes.now self.now.demand.demands }
+        requires slots { length steps.now.capacities.now ≡ length self.now.demand.capacities }
+        requires bounded { All IsCapacity steps.now.capacities.now }
+        requires met { CanBeMet (changed steps.now.changes.now self.now.demand.demands)
+            self.now.demand.lists steps.now.capacities.now }
+        requires place { u < length self.now.demand.demands }
         requires low { pos 0 ≤ℤ limit }
-        requires small { IsAmount (amount_at aim.now.demands.now u +ℤ limit) }
-        ensures { IfOk result (IsGrown (record {
-          demands = aim.now.demands.now;
-          lists = self.now.demand.lists;
-          capacities = aim.now.capacities.now;
-        })
-            self.now.shares.cells.whos.items self.now.shares.cells.slots.items work.new.y.items
-            work.new.left.rooms.items u limit) }
+        requires small { IsAmount (amount_at (changed steps.now.changes.now
+            self.now.demand.demands) u +ℤ limit) }
+        ensures { IfOk result (IsGrown (changed_demands steps.now.changes.now
+            steps.now.capacities.now self.now.demand) self.now.shares.cells.whos.items
+            self.now.shares.cells.slots.items work.new.y.items work.new.left.rooms.items u limit) }
     {
-        self.find_met(alloc, work, aim)?;
+        let _sound = self.demand.demands();
+        self.find_met(alloc, work, steps)?;
         let more = raise_most(alloc, self.shares.cells.all(), work, u, limit)?;
         Ok(more)
     }
@@ -426,9 +424,9 @@ impl Kept {
         Ok(more)
     }
 
-    /// Takes over how another split over the same lists meets its demands, brought to other demands and capacities that can be
-    /// met, and the demand u raised by as much as can be met besides, up to a limit; tells by how much. It takes no memory once it
-    /// has had what it wants.
+    /// Takes over how another split over the same lists meets its demands once some of these have changed, with other capacities, and
+    /// the demand u raised by as much as can be met besides, up to a limit; tells by how much. It takes no memory once it has had
+    /// what it wants.
     ///
     /// # Errors
     ///
@@ -437,40 +435,67 @@ impl Kept {
         &mut self,
         alloc: Global,
         from: &Kept,
-        aim: &Aim,
+        steps: &Steps,
         u: usize,
         limit: i128,
     ) -> Result<i128, Memory>
         requires lists { self.old.demand.lists ≡ from.now.demand.lists }
-        requires sized { length aim.now.demands.now ≡ length self.old.demand.demands }
-        requires slots { length aim.now.capacities.now ≡ length self.old.demand.capacities }
-        requires other_slots { length aim.now.capacities.now ≡ length from.now.demand.capacities }
-        requires amounts { All IsAmount aim.now.demands.now }
-        requires bounded { All IsCapacity aim.now.capacities.now }
-        requires met { CanBeMet aim.now.demands.now self.old.demand.lists aim.now.capacities.now }
-        requires place { u < length aim.now.demands.now }
+        requires slots { length steps.now.capacities.now ≡ length self.old.demand.capacities }
+        requires other_slots { length steps.now.capacities.now ≡ length from.now.demand.capacities }
+        requires changes { AreChanges steps.now.changes.now from.now.demand.demands }
+        requires bounded { All IsCapacity steps.now.capacities.now }
+        requires met { CanBeMet (changed steps.now.changes.now from.now.demand.demands)
+            from.now.demand.lists steps.now.capacities.now }
+        requires place { u < length from.now.demand.demands }
         requires low { pos 0 ≤ℤ limit }
-        requires small { IsAmount (amount_at aim.now.demands.now u +ℤ limit) }
-        ensures grown { IfOk result (λ g. self.new.demand ≡ with_more
-            (record {
-              demands = aim.now.demands.now;
-              lists = self.old.demand.lists;
-              capacities = aim.now.capacities.now;
-            }) u g) }
-        ensures most { IfOk result (IsMostUpto (record {
-          demands = aim.now.demands.now;
-          lists = self.old.demand.lists;
-          capacities = aim.now.capacities.now;
-        }) u limit) }
+        requires small { IsAmount (amount_at (changed steps.now.changes.now
+            from.now.demand.demands) u +ℤ limit) }
+        ensures grown { IfOk result (λ g. self.new.demand ≡ with_more (changed_demands
+            steps.now.changes.now steps.now.capacities.now from.now.demand) u g) }
+        ensures most { IfOk result (IsMostUpto (changed_demands steps.now.changes.now
+            steps.now.capacities.now from.now.demand) u limit) }
         ensures unchanged { OnErr result (self.new.demand ≡ self.old.demand) }
     {
         let _sound = self.demand.demands();
-        let _other = from.demand.demands();
-        let more = from.find_raised(alloc, &mut self.beside.work, aim, u, limit)?;
-        self.demand.copy_from(aim.demands, aim.capacities);
+        let before = from.demand.demands();
+        let more = from.find_raised(alloc, &mut self.beside.work, steps, u, limit)?;
+        self.demand.copy_from(before, steps.capacities);
+        change_all(&mut self.demand, steps.changes);
         self.demand.raise(u, more);
         self.beside.put(&mut self.shares.y, &mut self.rooms);
         Ok(more)
+    }
+
+    /// Changes demands one after another, and splits them from the split as it stands: what is too much is lowered, and what is
+    /// lacking is raised. It takes no memory once it has had what it wants.
+    ///
+    /// # Errors
+    ///
+    /// `Shortage` where there is no such split, `Memory` where there is none; demands are then as they were.
+    pub fn bring_changed(&mut self, alloc: Global, changes: &[Change]) -> Result<(), AssignEnd>
+        requires { AreChanges changes.now self.old.demand.demands }
+        ensures brought { MatchResult result (λ _. self.new.demand ≡ changed_demands changes.now
+            self.old.demand.capacities self.old.demand)
+            (IsAssignEnd (changed changes.now self.old.demand.demands) self.old.demand.lists
+            self.old.demand.capacities) }
+        ensures unchanged { OnErr result (self.new.demand ≡ self.old.demand) }
+    {
+        let _sound = self.demand.demands();
+        let steps = Steps {
+            changes,
+            capacities: self.demand.capacities(),
+        };
+        find_changed(
+            alloc,
+            &mut self.beside.work,
+            &self.demand,
+            &self.shares,
+            &self.rooms,
+            &steps,
+        )?;
+        change_all(&mut self.demand, changes);
+        self.beside.put(&mut self.shares.y, &mut self.rooms);
+        Ok(())
     }
 
     /// Sees to it that the demands that ask for something are counted.

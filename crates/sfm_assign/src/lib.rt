@@ -11,4 +11,4 @@ mod told;
 pub use greatest::most;
 pub use kept::Kept;
 pub use sfm_cells::Demand;
-pub use sfm_split::{Aim, AssignEnd, Split, assign};
+pub use sfm_split::{Aim, AssignEnd, Change, Split, Steps, assign};

@@ -1,6 +1,6 @@
 -- Splits of bases m times: so much is over vertices that hold m times as much, and is within the
 -- bounds, as m times the base is.
-use Rattle.std.proofs.Common.{◌≡◌, ℕ, List, length, map, set, replicate, ℤ, pos, ◌*ℤ◌, ap, ◌∙◌}
+use Rattle.std.proofs.Common.{None, ◌≡◌, ℕ, List, length, map, set, replicate, ℤ, pos, ◌*ℤ◌, ap, ◌∙◌}
 use Rattle.std.proofs.Math.IntN.{*ℤ-zero}
 use Rattle.std.proofs.lemmas.List.{map-set}
 use Rattle.sfm_spec.specs.Bounds.{IsFactor}
@@ -11,6 +11,7 @@ use Rattle.sfm_matroid.specs.Notes.{AreBeside, CanMultiply, demands_times}
 use Rattle.sfm_graphic.specs.Notes.{end_demands, graphic_fits}
 use Rattle.sfm_graphic.specs.Numbered.{end_lists, numbered, vertex_capacities, vertex_count}
 use Rattle.sfm_graphic.specs.declared.graphic.Graphic.{Graphic}
+use Rattle.sfm_matroid.proofs.Beside.{not_near}
 use Rattle.sfm_graphic.specs.declared.rooted.RootSplit.{RootSplit}
 use Rattle.sfm_matroid.proofs.Fits.{capped_amounts}
 use Rattle.sfm_matroid.proofs.Multiples.{replicate-times}
@@ -54,10 +55,12 @@ graphic_multiply s m q x note h few factor sized base =
 pub graphic_multiplied : (s : Graphic) (m q : ℤ) (x : List ℤ) (note made : RootSplit)
     → graphic_fits s.w s.ends note q x
     → made.pair.kept.demand ≡ demands_times m note.pair.kept.demand → made.root ≡ note.root
-    → AreBeside made.pair → graphic_fits s.w s.ends made (m *ℤ q) (map (λ a. m *ℤ a) x)
-graphic_multiplied s m q x note made h kept root spare = record {
+    → AreBeside made.pair → made.pair.near ≡ None
+    → graphic_fits s.w s.ends made (m *ℤ q) (map (λ a. m *ℤ a) x)
+graphic_multiplied s m q x note made h kept root spare none = record {
   split = rw root
       (kept ∙ (ap (demands_times m) h.split
       ∙ ends-times m q s.w (numbered s.ends) (vertex_count s.ends) x note.root));
   spare = spare;
+  near = not_near made.pair _ none;
 }

@@ -1,10 +1,10 @@
 -- The split with a root that is kept beside a base, and a spare one.
-use Rattle.std.proofs.Common.{◌≡◌, ℕ, List, length, ℤ, refl, sym, ◌∙◌}
+use Rattle.std.proofs.Common.{None, ◌≡◌, ℕ, List, length, ℤ, refl, sym, ◌∙◌}
 use Rattle.sfm_spec.specs.Kinds.{Edge}
 use Rattle.sfm_matroid.specs.Amounts.{IsBeside}
 use Rattle.sfm_matroid.specs.declared.pair.SplitPair.{SplitPair}
 use Rattle.sfm_graphic.specs.declared.rooted.RootSplit.{RootSplit}
-use Rattle.sfm_matroid.proofs.Beside.{spare_beside}
+use Rattle.sfm_matroid.proofs.Beside.{spare_beside, not_near}
 use Rattle.sfm_graphic.proofs.Numbering.{length-vertices}
 use Rattle.sfm_graphic.specs.Notes.{end_demands, AreOverEnds, IsRootSplit}
 use Rattle.sfm_matroid.specs.Notes.{AreBeside}
@@ -35,12 +35,17 @@ module _ (edges : List Edge) (m : ℕ) where
   -- the split of entries, to which another one was brought
   pub note_brought : (c : ℤ) (x : List ℤ) (before : SplitPair) (note : RootSplit)
       → length x ≡ length edges → AreOverEnds edges m before → note.pair.spare ≡ before.spare
-      → note.pair.kept.demand ≡ end_demands edges m c x note.root → IsRootSplit edges m c x note
-  note_brought c x before note sized over same is =
+      → note.pair.near ≡ None → note.pair.kept.demand ≡ end_demands edges m c x note.root
+      → IsRootSplit edges m c x note
+  note_brought c x before note sized over same none is =
       let h : IsBeside before.kept.demand note.pair.kept.demand = rw is
       (record {
         lists = sym over.kept.lists;
         places = sized ∙ sym over.kept.places;
         slots = length-vertices m c note.root ∙ sym over.kept.vertices;
       }) in
-      record { split = is; spare = spare_beside before note.pair same h over.spare }
+      record {
+        split = is;
+        spare = spare_beside before note.pair same h over.spare;
+        near = not_near note.pair _ none;
+      }

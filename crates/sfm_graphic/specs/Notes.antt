@@ -5,7 +5,7 @@ use Rattle.sfm_spec.specs.Bounds.{IsFactor}
 use Rattle.sfm_spec.specs.Kinds.{Edge}
 use Rattle.sfm_spec.specs.Terms.{IsBase, times}
 use Rattle.sfm_assign.specs.Splits.{Demands, IsAmount, IsCapacity}
-use Rattle.sfm_matroid.specs.Notes.{AreBeside}
+use Rattle.sfm_matroid.specs.Notes.{AreBeside, IsNear}
 use Rattle.sfm_graphic.specs.Cuts.{IsWithinEnds}
 use Rattle.sfm_graphic.specs.Graphs.{graphic_value}
 use Rattle.sfm_graphic.specs.Numbered.{end_lists, numbered, vertex_capacities, vertex_count}
@@ -52,6 +52,7 @@ pub record IsRootSplit (edges : List Edge) (m : ℕ) (c : ℤ) (x : List ℤ) (n
     0 where
   pub split : note.pair.kept.demand ≡ end_demands edges m c x note.root
   pub spare : AreBeside note.pair
+  pub near : IsNear note.pair (vertex_capacities m c note.spare_root)
 
 -- a base of q times a graphic term of k edges
 pub record IsGraphicBase (k : ℕ) (w : ℤ) (edges : List Edge) (q : ℤ) (x : List ℤ) : Type 0 where

@@ -169,6 +169,7 @@ impl Graphic {
         if !brought(alloc, &self.graph, &mut note.pair.kept, at.x, cap, root)? {
             unreachable!();
         }
+        note.pair.near = None;
         note.root = root;
         Ok(())
     }
@@ -321,7 +322,11 @@ impl Term for Graphic {
         let demand = end_demand(alloc, &self.graph, at.x, cap, 0)?;
         let kept = split_of(alloc, demand)?;
         Ok(RootSplit {
-            pair: SplitPair { kept, spare: None },
+            pair: SplitPair {
+                kept,
+                spare: None,
+                near: None,
+            },
             root: 0,
             spare_root: 0,
         })
@@ -357,7 +362,7 @@ impl Term for Graphic {
         let pull = pull_of(at.x, cap, swap);
         let held = capacities(alloc, self.graph.vertices, cap, root)?;
         note.spare_root = root;
-        let most = note.pair.raise_spare(alloc, &held, at.x, &pull)?;
+        let most = note.pair.raise_spare(alloc, &held, &pull)?;
         Ok(most)
     }
 
@@ -370,6 +375,10 @@ impl Term for Graphic {
         note: &mut RootSplit,
         swap: &Swap,
     ) -> Result<(), Memory> {
+        if note.pair.exchange(alloc, swap)? {
+            mem::swap(&mut note.root, &mut note.spare_root);
+            return Ok(());
+        }
         let after = moved(alloc, at.x, swap)?;
         self.take_spare(note, swap.u);
         let root = self.end_near(note.root, swap.u);

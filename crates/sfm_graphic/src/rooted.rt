@@ -2,7 +2,7 @@
 // root, so a split can be brought to another root from where it stands. What an edge may get is told with the root at an end of it;
 // and so it is of an edge that has room to another one, with the root at an end of that. A room leaves a spare split, from which an
 // exchange goes on.
-ghost use Rattle.std.specs.Prelude.{◌≡◌, length, IfOk};
+ghost use Rattle.std.specs.Prelude.{◌≡◌, length, IfOk, None};
 ghost use Rattle.sfm_matroid.specs.Notes.{AreBeside, CanMultiply, demands_times};
 
 use sfm_base::Memory;
@@ -38,6 +38,7 @@ impl RootSplit {
         ensures kept { IfOk result (λ r. r.pair.kept.demand
             ≡ demands_times m self.now.pair.kept.demand) }
         ensures spare { IfOk result (λ r. AreBeside r.pair) }
+        ensures near { IfOk result (λ r. r.pair.near ≡ None) }
         ensures root { IfOk result (λ r. r.root ≡ self.now.root) }
     {
         let pair = self.pair.times(alloc, m)?;
@@ -57,6 +58,7 @@ impl RootSplit {
         requires spare { AreBeside self.old.pair }
         ensures kept { self.new.pair.kept.demand ≡ demands_times m from.now.pair.kept.demand }
         ensures spare { AreBeside self.new.pair }
+        ensures near { self.new.pair.near ≡ None }
         ensures root { self.new.root ≡ from.now.root }
     {
         self.pair.copy_times(m, &from.pair);

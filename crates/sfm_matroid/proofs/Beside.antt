@@ -1,11 +1,11 @@
 -- Splits over the same lists, that stand beside each other.
-use Rattle.std.proofs.Common.{◌≡◌, ℕ, List, ℤ, pos, Some, refl, sym, ◌∙◌, length-set}
-use Rattle.std.proofs.lemmas.Option.{same_Some}
+use Rattle.std.proofs.Common.{◌≡◌, ℕ, List, ℤ, pos, Some, None, refl, sym, ◌∙◌, length-set}
+use Rattle.std.proofs.lemmas.Option.{none-some, same_Some}
 use Rattle.sfm_assign.specs.Splits.{Demands}
 use Rattle.sfm_assign.specs.Lenders.{with_more}
 use Rattle.sfm_assign.specs.declared.kept.Kept.{Kept}
 use Rattle.sfm_matroid.specs.Amounts.{IsBeside, CanHold, rest_of}
-use Rattle.sfm_matroid.specs.Notes.{AreBeside}
+use Rattle.sfm_matroid.specs.Notes.{AreBeside, IsNear}
 use Rattle.sfm_matroid.specs.declared.pair.SplitPair.{SplitPair}
 
 -- what is beside another has that beside it
@@ -41,3 +41,14 @@ pub spare_beside : (before after : SplitPair) → after.spare ≡ before.spare
 spare_beside before after same h spare k some =
     beside_next after.kept.demand before.kept.demand k.demand
     (beside_back before.kept.demand after.kept.demand h) (spare k (sym same ∙ some))
+
+-- where nothing is noted
+pub not_near : (pair : SplitPair) (held : List ℤ) → pair.near ≡ None → IsNear pair held
+not_near pair held none n k e f = absurd (none-some n (sym none ∙ e))
+
+-- what is noted stays true while the demands of both splits stay
+pub still_near : (before after : SplitPair) (held : List ℤ) → after.near ≡ before.near
+    → after.spare ≡ before.spare → after.kept.demand ≡ before.kept.demand
+    → IsNear before held → IsNear after held
+still_near before after held near spare kept h n k e f =
+    let (b, c, is) = h n k (sym near ∙ e) (sym spare ∙ f) in (b, c, rw kept is)

@@ -7,6 +7,7 @@ pub mod Lending
 mod Options
 pub mod Beside
 mod SlotNotes
+pub mod Exchanges
 pub mod Fits
 mod Frames
 pub mod AnyRank

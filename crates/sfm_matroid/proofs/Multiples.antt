@@ -1,11 +1,12 @@
 -- Splits of bases m times: so much is over slots that hold m times as much, and is within the
 -- bounds, as m times the base is.
-use Rattle.std.proofs.Common.{◌≡◌, ℕ, zero, suc, List, ◌∷◌, length, map, replicate, ℤ, ◌*ℤ◌, refl, sym, ap, ◌∙◌}
+use Rattle.std.proofs.Common.{None, ◌≡◌, ℕ, zero, suc, List, ◌∷◌, length, map, replicate, ℤ, ◌*ℤ◌, refl, sym, ap, ◌∙◌}
 use Rattle.sfm_spec.specs.Bounds.{IsFactor}
 use Rattle.sfm_spec.specs.Terms.{times, IsBase}
 use Rattle.sfm_spec.proofs.Scaled.{times-assoc}
 use Rattle.sfm_assign.specs.Splits.{Demands}
 use Rattle.sfm_matroid.specs.Notes.{AreBeside, CanMultiply, demands_times, slot_demands, transversal_fits}
+use Rattle.sfm_matroid.proofs.Beside.{not_near}
 use Rattle.sfm_matroid.specs.Slots.{transversal_value}
 use Rattle.sfm_matroid.specs.declared.splits.SlotSplit.{SlotSplit}
 use Rattle.sfm_matroid.specs.declared.transversal.Transversal.{Transversal}
@@ -47,8 +48,9 @@ pub slots_multiplied : (s : Transversal) (m q : ℤ) (x : List ℤ) (note made :
     → transversal_fits s.w s.entries note q x
     → made.pair.kept.demand ≡ demands_times m note.pair.kept.demand
     → made.capacities.items ≡ made.pair.kept.demand.capacities → AreBeside made.pair
+    → made.pair.near ≡ None
     → transversal_fits s.w s.entries made (m *ℤ q) (map (λ a. m *ℤ a) x)
-slots_multiplied s m q x note made h kept holds spare =
+slots_multiplied s m q x note made h kept holds spare none =
     let is = kept ∙ (ap (demands_times m) h.split ∙ slots-times m q s.w s.entries h.m x) in
     record {
       m = h.m;
@@ -56,4 +58,5 @@ slots_multiplied s m q x note made h kept holds spare =
       holds = holds ∙ ap (λ (d : Demands). d.capacities) is;
       split = is;
       spare = spare;
+      near = not_near made.pair _ none;
     }

@@ -1,9 +1,10 @@
 -- What is kept beside a base: a split of it in a test.
-use Rattle.std.specs.Prelude.{◌≡◌, ℕ, ◌<◌, ◌≤◌, ◌^◌, List, length, map, replicate, ℤ, pos, ◌*ℤ◌, ◌≤ℤ◌, Option, Some, None}
+use Rattle.std.specs.Prelude.{◌≡◌, ℕ, ◌<◌, ◌≤◌, ◌^◌, List, length, map, replicate, slice_set, ℤ, pos, ◌*ℤ◌, ◌≤ℤ◌, Option, Some, None}
 use Rattle.std.specs.List.{All}
 use Rattle.sfm_assign.specs.Splits.{CanBeMet, Demands, IsAmount, IsCapacity}
 use Rattle.sfm_assign.specs.declared.kept.Kept.{Kept}
 use Rattle.sfm_matroid.specs.Amounts.{IsBeside}
+use Rattle.sfm_matroid.specs.declared.pair.Near.{Near}
 use Rattle.sfm_matroid.specs.declared.pair.SplitPair.{SplitPair}
 use Rattle.sfm_matroid.specs.declared.splits.SlotSplit.{SlotSplit}
 
@@ -51,6 +52,20 @@ IsSplitOrNone d (Some kept) = (kept.demand ≡ d) × CanBeMet d.demands d.lists 
 abbrev pub AreBeside : SplitPair → Type 0
 AreBeside pair = (k : Kept) → pair.spare ≡ Some k → IsBeside pair.kept.demand k.demand
 
+-- other numbers at two places, over slots that hold what is told
+abbrev pub apart_at : Demands → Near → ℤ → ℤ → List ℤ → Demands
+apart_at d n b c held = record {
+  demands = slice_set (slice_set d.demands n.v b) n.u c;
+  lists = d.lists;
+  capacities = held;
+}
+
+-- the spare split differs from the one that is kept at two places alone, over slots that hold what
+-- is told, if that is noted
+abbrev pub IsNear : SplitPair → List ℤ → Type 0
+IsNear pair held = (n : Near) (k : Kept) → pair.near ≡ Some n → pair.spare ≡ Some k
+    → (b c : ℤ) × (k.demand ≡ apart_at pair.kept.demand n b c held)
+
 -- the split of the entries where each slot holds c, with what the slots hold, and perhaps a spare
 -- one
 pub record IsSlotSplit (entries : List (List ℕ)) (c : ℤ) (x : List ℤ) (note : SlotSplit) : Type
@@ -60,6 +75,7 @@ pub record IsSlotSplit (entries : List (List ℕ)) (c : ℤ) (x : List ℤ) (not
   pub holds : note.capacities.items ≡ replicate m c
   pub split : note.pair.kept.demand ≡ slot_demands entries m c x
   pub spare : AreBeside note.pair
+  pub near : IsNear note.pair (replicate m c)
 
 -- what is kept beside a base of q times a transversal term: the split in its test
 abbrev pub transversal_fits : ℤ → List (List ℕ) → SlotSplit → ℤ → List ℤ → Type 0

@@ -83,7 +83,11 @@ impl Frame {
         let mut kept = none.copy(alloc)?;
         bring_split(alloc, &mut kept, x, &capacities)?;
         Ok(SlotSplit {
-            pair: SplitPair { kept, spare: None },
+            pair: SplitPair {
+                kept,
+                spare: None,
+                near: None,
+            },
             capacities,
         })
     }

@@ -7,7 +7,7 @@ ghost use Rattle.sfm_law.specs.Based.{IsPair};
 ghost use Rattle.sfm_assign.specs.Lenders.{with_more, IsMostUpto};
 ghost use Rattle.sfm_matroid.specs.Amounts.{AreCapped, CanMove, IsRaise, IsBeside, CanHold, rest_of};
 
-use sfm_assign::{Aim, Kept};
+use sfm_assign::{Change, Kept, Steps};
 use sfm_base::Memory;
 use sfm_law::Swap;
 use std::alloc::Global;
@@ -37,16 +37,6 @@ pub fn pull_of(x: &[i128], cap: i128, swap: &Swap) -> Pull
     Pull { u, v, limit }
 }
 
-/// The entries, with nothing in a place.
-fn emptied_at(alloc: Global, x: &[i128], v: usize) -> Result<Vec<i128>, Memory>
-    requires { v < length x.now }
-    ensures { IfOk result (λ r. r.items ≡ slice_set x.now v (pos 0)) }
-{
-    let mut rest = Vec::from_slice(alloc, x)?;
-    rest[v] = 0;
-    Ok(rest)
-}
-
 /// The entries after an exchange.
 ///
 /// # Errors
@@ -62,7 +52,7 @@ pub fn moved(alloc: Global, x: &[i128], swap: &Swap) -> Result<Vec<i128>, Memory
     Ok(after)
 }
 
-/// Raises u in a second split beside one that is kept, in which v has nothing, as far as all others leave room, up to a limit;
+/// Raises u in a second split beside one of the entries, in which v has nothing, as far as all others leave room, up to a limit;
 /// tells by how much.
 ///
 /// # Errors
@@ -73,22 +63,24 @@ pub(crate) fn raise(
     kept: &Kept,
     second: &mut Kept,
     held: &[i128],
-    x: &[i128],
     pull: &Pull,
 ) -> Result<i128, Memory>
-    requires raise { IsRaise x.now pull.now.u pull.now.v pull.now.limit }
+    requires raise { IsRaise kept.now.demand.demands pull.now.u pull.now.v pull.now.limit }
     requires beside { IsBeside kept.now.demand second.old.demand }
-    requires held { CanHold kept.now.demand x.now pull.now.v held.now }
-    ensures most { IfOk result (IsMostUpto (rest_of kept.now.demand x.now pull.now.v held.now)
-        pull.now.u pull.now.limit) }
+    requires held { CanHold kept.now.demand kept.now.demand.demands pull.now.v held.now }
+    ensures most { IfOk result (IsMostUpto (rest_of kept.now.demand kept.now.demand.demands
+        pull.now.v held.now) pull.now.u pull.now.limit) }
     ensures grown { IfOk result (λ r. second.new.demand ≡ with_more
-        (rest_of kept.now.demand x.now pull.now.v held.now) pull.now.u r) }
+        (rest_of kept.now.demand kept.now.demand.demands pull.now.v held.now) pull.now.u r) }
 {
-    let rest = emptied_at(alloc, x, pull.v)?;
-    let aim = Aim {
-        demands: &rest,
+    let changes = [Change {
+        k: pull.v,
+        more: -kept.demand.demands()[pull.v],
+    }];
+    let steps = Steps {
+        changes: &changes,
         capacities: held,
     };
-    let most = second.grow_from(alloc, kept, &aim, pull.u, pull.limit)?;
+    let most = second.grow_from(alloc, kept, &steps, pull.u, pull.limit)?;
     Ok(most)
 }

@@ -1,6 +1,6 @@
 // The split that is kept beside a base of a transversal term, for all searches at it. A base passes the test, so there is a split.
 // A room leaves a spare one near the exchange that may come, and an exchange brings that one up, or else the one that is kept.
-ghost use Rattle.std.specs.{Prelude.{◌≡◌, ◌↔◌, length, IfOk, IsTrue, OnOk}, List.{All}};
+ghost use Rattle.std.specs.{Prelude.{◌≡◌, ◌↔◌, length, IfOk, IsTrue, OnOk, None}, List.{All}};
 ghost use Rattle.sfm_assign.specs.Splits.{IsAmount, IsCapacity, CanBeMet};
 ghost use Rattle.sfm_matroid.specs.Notes.{AreBeside, CanMultiply, IsSplitOrNone, demands_times};
 
@@ -36,6 +36,7 @@ impl SlotSplit {
         ensures kept { IfOk result (λ r. r.pair.kept.demand
             ≡ demands_times m self.now.pair.kept.demand) }
         ensures spare { IfOk result (λ r. AreBeside r.pair) }
+        ensures near { IfOk result (λ r. r.pair.near ≡ None) }
         ensures holds { IfOk result (λ r. r.capacities.items ≡ r.pair.kept.demand.capacities) }
     {
         let pair = self.pair.times(alloc, m)?;
@@ -54,6 +55,7 @@ impl SlotSplit {
         requires spare { AreBeside self.old.pair }
         ensures kept { self.new.pair.kept.demand ≡ demands_times m from.now.pair.kept.demand }
         ensures spare { AreBeside self.new.pair }
+        ensures near { self.new.pair.near ≡ None }
         ensures holds { self.new.capacities.items ≡ self.new.pair.kept.demand.capacities }
     {
         self.pair.copy_times(m, &from.pair);

@@ -257,7 +257,7 @@ impl Term for Transversal {
         if pull.limit == 0 {
             return Ok(0);
         }
-        let most = note.pair.raise_spare(alloc, &note.capacities, at.x, &pull)?;
+        let most = note.pair.raise_spare(alloc, &note.capacities, &pull)?;
         Ok(most)
     }
 
@@ -269,6 +269,9 @@ impl Term for Transversal {
         note: &mut SlotSplit,
         swap: &Swap,
     ) -> Result<(), Memory> {
+        if note.pair.exchange(alloc, swap)? {
+            return Ok(());
+        }
         let after = moved(alloc, at.x, swap)?;
         note.pair.swap();
         bring_split(alloc, &mut note.pair.kept, &after, &note.capacities)

@@ -2,6 +2,7 @@ pub mod Searches
 pub mod Queues
 pub mod Ways
 pub mod Augments
+pub mod Changes
 pub mod Fills
 pub mod Growing
 pub mod Pours

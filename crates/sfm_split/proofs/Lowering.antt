@@ -15,6 +15,8 @@ use Rattle.sfm_cells.proofs.Written.{are_turned}
 use Rattle.sfm_split.specs.Pours.{IsPouring, AreWithin}
 use Rattle.sfm_split.specs.Lowers.{IsCharge, AreSmall, AreCharged, AreLowered, IsStanding, StandsBy, IsTotal, lacks_put, rooms_put}
 use Rattle.sfm_split.specs.Sides.{of_side}
+use Rattle.sfm_split.specs.Changes.{with_change, CanTurn}
+use Rattle.sfm_split.specs.declared.lower.Change.{Change}
 use Rattle.sfm_split.specs.declared.lower.Side.{Side}
 use Rattle.sfm_split.specs.declared.lower.Side.TheVariants.{Demands, Slots}
 use Rattle.sfm_split.proofs.Fills.{left_low}
@@ -508,18 +510,47 @@ pub side_put : (side : Side) (lacks rooms : List ℤ) (k : ℕ) (a : ℤ)
 side_put Demands lacks rooms k a = refl
 side_put Slots lacks rooms k a = refl
 
--- ---- all totals of a side change, in order
+-- a total can change by so much; once what is too much then is lowered, amounts stand with it
+pub record IsTurning (side : Side) (totals others : List ℤ) (whos slots : List ℕ)
+    (y lacks rooms : List ℤ) (c : Change) : Type 0 where
+  pub can : CanChange (of_side side lacks rooms) c.k c.more
+  pub charged : AreCharged whos slots y (lacks_put side lacks c.k c.more)
+      (rooms_put side rooms c.k c.more)
+  pub stands : (z lacks' rooms' : List ℤ) → AreLowered whos slots y
+      (lacks_put side lacks c.k c.more) (rooms_put side rooms c.k c.more) z lacks' rooms'
+      → pos 0 ≤ℤ amount_at (of_side side lacks' rooms') c.k
+      → StandsBy side (with_change c totals) others whos slots z lacks' rooms'
 
--- the next total can change by so much; once what is too much then is lowered, amounts stand with
--- it
-pub record IsTurning (side : Side) (totals before others : List ℤ) (whos slots : List ℕ)
-    (y lacks rooms : List ℤ) (k : ℕ) (more : ℤ) : Type 0 where
-  pub can : CanChange (of_side side lacks rooms) k more
-  pub charged : AreCharged whos slots y (lacks_put side lacks k more) (rooms_put side rooms k more)
-  pub stands : (z lacks' rooms' : List ℤ) → AreLowered whos slots y (lacks_put side lacks k more)
-      (rooms_put side rooms k more) z lacks' rooms'
-      → pos 0 ≤ℤ amount_at (of_side side lacks' rooms') k
-      → StandsBy side (turned (k + 1) totals before) others whos slots z lacks' rooms'
+pub turning : (side : Side) (totals others : List ℤ) (whos slots : List ℕ)
+    (y lacks rooms : List ℤ) (c : Change)
+    → CanTurn side totals others whos slots y lacks rooms c
+    → IsTurning side totals others whos slots y lacks rooms c
+turning side totals others whos slots y lacks rooms c h =
+    let can = side_change totals others whos slots y lacks rooms c.k c.more side h.stands h.place
+    h.total in
+    let over = side_over totals others whos slots y lacks rooms c.k c.more side h.stands h.place
+    h.total in
+    let small = put_small totals others whos slots y lacks rooms c.k c.more side h.stands can in
+    record {
+      can = can;
+      charged = record {
+        demands = of_side side (set totals c.k (amount_at totals c.k +ℤ c.more)) others;
+        capacities = of_side side others (set totals c.k (amount_at totals c.k +ℤ c.more));
+        cells = over.cells;
+        asked = over.asked;
+        bounded = over.bounded;
+        charge = over.charge;
+        lacks_small = small.0;
+        rooms_small = small.1;
+      };
+      stands = λ z lacks' rooms' r here.
+          let low = put_low totals others whos slots y lacks rooms c.k c.more side h.stands z
+          lacks' rooms' r here in
+          over_stands _ _ whos slots y (lacks_put side lacks c.k c.more)
+          (rooms_put side rooms c.k c.more) over z lacks' rooms' r low.0 low.1;
+    }
+
+-- ---- all totals of a side change, in order
 
 module _ (side : Side) (totals before others : List ℤ) (whos slots : List ℕ)
     (y lacks rooms : List ℤ) (k : ℕ) (same : length before ≡ length totals)
@@ -533,7 +564,7 @@ module _ (side : Side) (totals before others : List ℤ) (whos slots : List ℕ)
   is_new : (amount_at now k +ℤ more) ≡ amount_at totals k
   is_new = let e = (are_turned k totals before same).next in omega (arith, ints, e)
 
-  next_turned : set now k (amount_at now k +ℤ more) ≡ turned (k + 1) totals before
+  pub next_turned : set now k (amount_at now k +ℤ more) ≡ turned (k + 1) totals before
   next_turned = rw (is_new, add-one) (are_turned k totals before same).more
 
   -- a total that stays
@@ -543,31 +574,13 @@ module _ (side : Side) (totals before others : List ℤ) (whos slots : List ℕ)
       let stays : (amount_at now k +ℤ more) ≡ amount_at now k = omega (arith, ints, e) in
       rw (← next_turned, stays, set-get_or now k (pos 0)) h
 
-  pub turning : k < length totals → All (IsTotal side) totals
-      → IsTurning side totals before others whos slots y lacks rooms k more
-  turning lt bounded =
+  -- the next total can change
+  pub turned_can : k < length totals → All (IsTotal side) totals
+      → CanTurn side now others whos slots y lacks rooms (record { k = k; more = more })
+  turned_can lt bounded =
       let p = (are_turned k totals before same).places in
-      let place : k < length now = omega (arith, lt, p) in
-      let new : IsTotal side (amount_at now k +ℤ more) = rw is_new
-      (All-get_or (IsTotal side) totals k (pos 0) lt bounded) in
-      let can = side_change now others whos slots y lacks rooms k more side h place new in
-      let over = side_over now others whos slots y lacks rooms k more side h place new in
-      let small = put_small now others whos slots y lacks rooms k more side h can in
       record {
-        can = can;
-        charged = record {
-          demands = of_side side (set now k (amount_at now k +ℤ more)) others;
-          capacities = of_side side others (set now k (amount_at now k +ℤ more));
-          cells = over.cells;
-          asked = over.asked;
-          bounded = over.bounded;
-          charge = over.charge;
-          lacks_small = small.0;
-          rooms_small = small.1;
-        };
-        stands = λ z lacks' rooms' r here.
-            let low = put_low now others whos slots y lacks rooms k more side h z lacks' rooms' r
-            here in
-            rw (← next_turned) (over_stands _ _ whos slots y (lacks_put side lacks k more)
-            (rooms_put side rooms k more) over z lacks' rooms' r low.0 low.1);
+        stands = h;
+        place = omega (arith, lt, p);
+        total = rw is_new (All-get_or (IsTotal side) totals k (pos 0) lt bounded);
       }

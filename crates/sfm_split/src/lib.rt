@@ -15,8 +15,9 @@ mod split;
 mod splitting;
 mod work;
 
-pub use change::{Aim, begin, find_amounts};
+pub use change::{Aim, Steps, begin, find_amounts, find_changed};
 pub use grown::raise_most;
+pub use lower::Change;
 pub use nodes::Link;
 pub use split::Split;
 pub use splitting::{AssignEnd, assign, met_shares};

@@ -5,7 +5,7 @@
 // is listed where it comes to lack something, so those that do not change are passed over with one comparison.
 ghost use Rattle.std.specs.{Prelude.{◌≡◌, ℕ, ◌+◌, ◌<◌, ◌^◌, List, length, ℤ, pos, ◌+ℤ◌, ◌-ℤ◌, ◌≤ℤ◌, OnOk}, List.{All}};
 ghost use Rattle.sfm_cells.specs.{Splits.{amount_at}, Cells.{label_at}, Groups.{AreGroups}, Left.{ListsLacking, turned, CanPut}};
-ghost use Rattle.sfm_split.specs.{Lowers.{AreCharged, AreLowered, IsTotal, StandsBy, lacks_put, rooms_put}, Sides.{of_side}, declared.lower.Side.{Side}};
+ghost use Rattle.sfm_split.specs.{Lowers.{AreCharged, AreLowered, IsStanding, IsTotal, StandsBy, lacks_put, rooms_put}, Changes.{with_change, changed, AreChanges, CanTurn}, Sides.{of_side}, declared.lower.Side.{Side}};
 
 use sfm_base::Memory;
 use sfm_cells::{Cells, Groups, Lefts, put, take};
@@ -97,6 +97,13 @@ impl Side {
     }
 }
 
+/// One demand, or one slot, and by how much its total changes.
+#[derive(Clone, Copy)]
+pub struct Change {
+    pub k: usize,
+    pub more: i128,
+}
+
 /// Lowers the amounts on the cells of a demand, or of a slot, until they are no more than its total.
 fn lower_along(
     cells: &Cells,
@@ -134,34 +141,26 @@ pub(crate) struct Turn<'a> {
     pub before: &'a [i128],
 }
 
-/// Puts one total of a side in place of the one before, and lowers the amounts on its cells until they are no more than it. The
-/// totals are gone through in order.
-fn turn_total(
+/// Changes one total of a side, and lowers the amounts on its cells until they are no more than it.
+fn change_total(
     cells: &Cells,
-    turn: &Turn,
-    k: usize,
+    side: Side,
+    change: Change,
     left: &mut Lefts,
     y: &mut [i128],
 ) -> Result<(), Memory>
-    requires place { k < length turn.now.totals.now }
-    requires same { length turn.now.before.now ≡ length turn.now.totals.now }
-    requires bounded { All (IsTotal turn.now.side) turn.now.totals.now }
-    requires stands { (others : List ℤ) × StandsBy turn.now.side
-        (turned k turn.now.totals.now turn.now.before.now) others cells.now.whos.items
-        cells.now.slots.items y.old left.old.lacks.items left.old.rooms.items }
+    requires can { (totals others : List ℤ) × CanTurn side totals others cells.now.whos.items
+        cells.now.slots.items y.old left.old.lacks.items left.old.rooms.items change }
     requires listed { ListsLacking left.old.lacks.items left.old.lacking.items }
-    ensures stands { OnOk result ((others : List ℤ) → StandsBy turn.now.side
-        (turned k turn.now.totals.now turn.now.before.now) others cells.now.whos.items
-        cells.now.slots.items y.old left.old.lacks.items left.old.rooms.items
-        → StandsBy turn.now.side (turned (k + 1) turn.now.totals.now turn.now.before.now) others
-        cells.now.whos.items cells.now.slots.items y.new left.new.lacks.items
-        left.new.rooms.items) }
+    ensures stands { OnOk result ((totals others : List ℤ) → CanTurn side totals others
+        cells.now.whos.items cells.now.slots.items y.old left.old.lacks.items left.old.rooms.items
+        change
+        → StandsBy side (with_change change totals) others cells.now.whos.items
+        cells.now.slots.items y.new left.new.lacks.items left.new.rooms.items) }
     ensures listed { OnOk result (ListsLacking left.new.lacks.items left.new.lacking.items) }
 {
-    let after = turn.totals[k];
-    let before = turn.before[k];
-    turn.side.put(left, k, after - before)?;
-    lower_along(cells, turn.side, k, left, y)?;
+    side.put(left, change.k, change.more)?;
+    lower_along(cells, side, change.k, left, y)?;
     Ok(())
 }
 
@@ -189,8 +188,33 @@ pub(crate) fn turn_side(
     let before = turn.before;
     for k in 0..totals.len() {
         if totals[k] != before[k] {
-            turn_total(cells, turn, k, left, y)?;
+            let more = totals[k] - before[k];
+            change_total(cells, turn.side, Change { k, more }, left, y)?;
         }
+    }
+    Ok(())
+}
+
+/// Changes demands one after another, and lowers the amounts that then are too much.
+pub(crate) fn change_demands(
+    cells: &Cells,
+    changes: &[Change],
+    left: &mut Lefts,
+    y: &mut [i128],
+) -> Result<(), Memory>
+    requires can { (demands capacities : List ℤ) × IsStanding demands capacities
+        cells.now.whos.items cells.now.slots.items y.old left.old.lacks.items left.old.rooms.items
+        × AreChanges changes.now demands }
+    requires listed { ListsLacking left.old.lacks.items left.old.lacking.items }
+    ensures stands { OnOk result ((demands capacities : List ℤ) → IsStanding demands capacities
+        cells.now.whos.items cells.now.slots.items y.old left.old.lacks.items left.old.rooms.items
+        → AreChanges changes.now demands
+        → IsStanding (changed changes.now demands) capacities cells.now.whos.items
+        cells.now.slots.items y.new left.new.lacks.items left.new.rooms.items) }
+    ensures listed { OnOk result (ListsLacking left.new.lacks.items left.new.lacking.items) }
+{
+    for change in changes {
+        change_total(cells, Side::Demands, *change, left, y)?;
     }
     Ok(())
 }

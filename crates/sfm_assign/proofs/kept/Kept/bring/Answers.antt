@@ -50,7 +50,7 @@ invariant_of-self-2 c =
     c.put.new.self.answers (length k.demand.demands) k.few long put.same put.none in
     record {
       met = rw (told, put.amounts) found.met;
-      left = rw (told, put.amounts, put.rooms) found.rooms;
+      left = rw (told, put.amounts, put.rooms) found.rooms_are;
       few = few;
       each = ap length put.asking
           ∙ (k.each ∙ sym long);

@@ -37,7 +37,7 @@ pub returns-in-Ok : goal.returns-in-Ok
 returns-in-Ok c =
     let d = wanted (goal.at.returns-in-Ok c).After-demands-sound in
     let y = c.find_amounts.new.work.y.items in
-    let (part, met, left) = over_lists d _ _ y _ c.in-Ok.ensures.met c.in-Ok.ensures.rooms in (
+    let (part, met, left) = over_lists d _ _ y _ c.in-Ok.ensures.met c.in-Ok.ensures.rooms_are in (
       (λ t. (
         cut d.lists y,
         split_from d y (sound (goal.at.returns-in-Ok c).After-demands-sound) part
@@ -48,5 +48,5 @@ returns-in-Ok c =
 
 pub returns-in-Err-Shortage : goal.returns-in-Err-Shortage
 returns-in-Err-Shortage c =
-    let end = rw c.in-Err-Shortage.field-0-is at c.in-Err-Shortage.ensures.met in
+    let end = rw c.in-Err-Shortage.field-0-is at c.in-Err-Shortage.ensures in
     ((λ t. absurd (false≢true t)), (λ h. absurd (end.1 h)))

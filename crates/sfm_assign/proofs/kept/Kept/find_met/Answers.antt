@@ -1,13 +1,13 @@
 use Rattle.sfm_assign.proofs.kept.Kept.find_met.Goals as goal
 
-pub find_amounts-requires : goal.find_amounts-requires
-find_amounts-requires c =
+pub find_changed-requires : goal.find_changed-requires
+find_changed-requires c =
     let r = c.requires in
     let k = c.args.self.now in
     record {
-      sized = r.sized;
+      changes = r.changes;
       slots = r.slots;
-      sound = r.sound;
+      bounded = r.bounded;
       met = k.met;
       left = rw c.deref.ensures.value k.left;
     }

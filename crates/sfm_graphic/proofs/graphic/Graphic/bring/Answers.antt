@@ -44,4 +44,4 @@ returns-clause-noted c =
     let b = c.requires.base in
     note_brought (numbered s.ends) (vertex_count s.ends) (c.args.at.now.q *ℤ s.w)
     c.args.at.now.x.now c.args.note.now.pair _ (edges_sized s c.args.at.now.x.now b.sized)
-    c.requires.over refl (there c.if-not-branch.false)
+    c.requires.over refl refl (there c.if-not-branch.false)

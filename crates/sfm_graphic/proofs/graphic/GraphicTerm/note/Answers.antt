@@ -44,4 +44,5 @@ returns c =
           ∙ rw (s.of_ends, s.counted, cap_is (goal.at.returns c).After-cap_of-cap) at
           c.in_ok-demand.ensures;
       spare = λ k some. absurd (none-some k some);
+      near = λ n k e f. absurd (none-some n e);
     }

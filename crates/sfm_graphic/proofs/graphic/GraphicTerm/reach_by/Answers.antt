@@ -1,5 +1,7 @@
-use Rattle.std.proofs.Common.{length}
+use Rattle.std.proofs.Common.{length, refl, ◌∙◌}
 use Rattle.sfm_law.proofs.Fits.{product_low}
+use Rattle.sfm_matroid.specs.declared.pair.SplitPair.{SplitPair}
+use Rattle.sfm_matroid.proofs.Beside.{still_near}
 use Rattle.sfm_matroid.proofs.Passed.{cap_passed}
 use Rattle.sfm_graphic.proofs.GraphicRooms.{row_reach}
 use Rattle.sfm_graphic.proofs.graphic.GraphicTerm.reach_by.Goals as goal
@@ -20,3 +22,19 @@ returns-clause-reached c =
     row_reach (length s.places) at.q s.w s.ends s.same_count (product_low at.q s.w b.factor s.low)
     at.x.now b.entries b.base lead.onto c.root_near.new.note.root lead.from r.onto near.end
     r.from r.leads c.row.new.to c.in_ok-row.ensures.places row
+
+pub returns-clause-noted : goal.returns-clause-noted
+returns-clause-noted c =
+    let n = c.in_ok-root_near.ensures.noted in
+    let before = c.root_near.new.note.pair in
+    let after : SplitPair = record {
+      kept = c.row.new.kept;
+      spare = before.spare;
+      near = before.near;
+    } in
+    let same = c.in_ok-row.ensures.same in
+    record {
+      split = same ∙ n.split;
+      spare = λ k some. rw same (n.spare k some);
+      near = still_near before after _ refl refl same n.near;
+    }

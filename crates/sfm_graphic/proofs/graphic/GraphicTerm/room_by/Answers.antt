@@ -1,8 +1,9 @@
-use Rattle.std.proofs.Common.{◌≡◌, ◌∙◌, ◌*ℤ◌, length, arith, rules, to_z, of_z, FitsSigned}
+use Rattle.std.proofs.Common.{◌≡◌, ◌∙◌, ap, ◌*ℤ◌, length, arith, rules, to_z, of_z, FitsSigned}
 use Rattle.std.proofs.lemmas.Int.{to_z-of_z}
 use mir.Syntax.{w128}
 use Rattle.sfm_law.proofs.Fits.{product_low}
 use Rattle.sfm_graphic.specs.Numbered.{vertex_capacities, vertex_count}
+use Rattle.sfm_assign.specs.declared.kept.Kept.{Kept}
 use Rattle.sfm_matroid.proofs.Passed.{cap_passed}
 use Rattle.sfm_graphic.proofs.GraphicBases.{capped_base}
 use Rattle.sfm_graphic.proofs.GraphicRooms.{end_vertex, ends_hold, grown_capacity}
@@ -59,3 +60,12 @@ returns-clause-room c =
     (product_low at.q s.w b.factor s.low) at.x.now b.entries b.base c.args.swap.now.u
     c.args.swap.now.v pair.from pair.onto pair.apart c.end_near-root.result
     c.end_near-root.ensures c.args.swap.now.a _ _ limit most)
+
+pub returns-clause-noted : goal.returns-clause-noted
+returns-clause-noted c =
+    let told = c.in_ok-most.ensures in
+    record {
+      split = ap (λ (k : Kept). k.demand) told.kept ∙ c.requires.noted.split;
+      spare = told.spare;
+      near = rw (held (goal.at.returns-clause-noted c).After-deref) at told.near;
+    }

@@ -47,4 +47,5 @@ returns c =
       holds = held at;
       split = is;
       spare = λ k some. absurd (none-some k some);
+      near = λ n k e f. absurd (none-some n e);
     }

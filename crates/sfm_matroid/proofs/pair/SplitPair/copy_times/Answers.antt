@@ -1,4 +1,4 @@
-use Rattle.std.proofs.Common.{length, ◌*ℤ◌, refl, sym, ap, ◌∙◌, FitsSigned}
+use Rattle.std.proofs.Common.{None, length, ◌*ℤ◌, refl, sym, ap, ◌∙◌, FitsSigned}
 use Rattle.std.proofs.lemmas.Int.{to_z-of_z}
 use Rattle.std.proofs.lemmas.List.{length-map}
 use mir.Syntax.{w128}
@@ -30,7 +30,7 @@ returns-clause-spare c =
     ∙ (sym c.demands-other.ensures.sound.same
     ∙ (sym (ap length r.lists) ∙ c.demands-sound.ensures.sound.same)) in
     let slots = length-map o.capacities (λ a. m *ℤ a) ∙ sym r.slots in
-    spare_beside s (record { kept = c.copy_times.new.self; spare = s.spare }) refl
+    spare_beside s (record { kept = c.copy_times.new.self; spare = s.spare; near = None }) refl
     (record {
       lists = ap (λ (d : Demands). d.lists) is ∙ sym r.lists;
       places = ap (λ (d : Demands). length d.demands) is ∙ places;

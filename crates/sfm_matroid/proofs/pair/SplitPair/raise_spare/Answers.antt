@@ -3,6 +3,7 @@ use Rattle.std.proofs.lemmas.Int.{to_z-of_z}
 use Rattle.std.proofs.lemmas.Option.{none-some, same_Some}
 use mir.Syntax.{w128}
 use Rattle.sfm_matroid.proofs.Beside.{grown_beside, spare_there}
+use Rattle.sfm_matroid.proofs.Exchanges.{near_there}
 use Rattle.sfm_matroid.proofs.pair.SplitPair.raise_spare.Goals as goal
 
 pub fill-requires : goal.fill-requires
@@ -32,6 +33,16 @@ pub returns-clause-spare : goal.returns-clause-spare
 returns-clause-spare c =
     let p = c.args.pull.now in
     let d = c.args.self.now.kept.demand in
-    let grown = grown_beside d c.args.x.now p.v c.args.held.now p.u _ c.requires.held in
-    spare_there (record { kept = c.args.self.now.kept; spare = Some c.raise.new.second }) _ refl
-    (rw c.in_ok-most-in-Some.ensures.grown grown)
+    let grown = grown_beside d d.demands p.v c.args.held.now p.u _ c.requires.held in
+    spare_there (record {
+      kept = c.args.self.now.kept;
+      spare = Some c.raise.new.second;
+      near = Some (record { u = p.u; v = p.v });
+    }) _ refl (rw c.in_ok-most-in-Some.ensures.grown grown)
+
+pub returns-clause-near : goal.returns-clause-near
+returns-clause-near c = λ n k e f.
+    let d = c.args.self.now.kept.demand in
+    let fm : FitsSigned w128 c.in_ok-most-in-Some.most = search rules in
+    near_there d c.args.held.now _ n c.raise.new.second k e f
+    (_, _, c.in_ok-most-in-Some.ensures.grown)

@@ -17,4 +17,4 @@ returns c =
     let fm : FitsSigned w128 c.args.m = c.ranges.m in
     let made = c.in_ok-times.ensures in
     slots_multiplied c.args.self.now c.args.m _ c.args._at.now.x.now c.args.note.now _
-    c.requires.noted (simp to_z-of_z at made.kept) made.holds made.spare
+    c.requires.noted (simp to_z-of_z at made.kept) made.holds made.spare made.near

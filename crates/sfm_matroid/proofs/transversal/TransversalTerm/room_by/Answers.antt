@@ -3,6 +3,7 @@ use Rattle.std.specs.Int.{int_min}
 use Rattle.std.proofs.lemmas.Int.{to_z-of_z}
 use mir.Syntax.{w128}
 use Rattle.sfm_law.proofs.Fits.{product_low}
+use Rattle.sfm_assign.specs.declared.kept.Kept.{Kept}
 use Rattle.sfm_matroid.proofs.Passed.{cap_passed}
 use Rattle.sfm_matroid.proofs.TransversalBases.{grown_capacity, held_base, no_capacity, slots_hold}
 use Rattle.sfm_matroid.proofs.transversal.TransversalTerm.room_by.Goals.{After-pull_of-pull}
@@ -67,3 +68,16 @@ returns-then-pull-eq0-clause-room c =
     (product_low at.q s.w b.factor s.low) at.x.now b.entries b.base c.args.swap.now.u
     c.args.swap.now.v pair.from pair.onto pair.apart c.args.swap.now.a
     (sym (most_is (goal.at.returns-then-pull-eq0-clause-room c).After-pull_of-pull) ∙ none)
+
+pub returns-clause-noted : goal.returns-clause-noted
+returns-clause-noted c =
+    let n = c.requires.noted in
+    let told = c.in_ok-most.ensures in
+    record {
+      m = n.m;
+      below = n.below;
+      holds = n.holds;
+      split = ap (λ (k : Kept). k.demand) told.kept ∙ n.split;
+      spare = told.spare;
+      near = rw (c.deref.ensures.value, n.holds) at told.near;
+    }
