@@ -1,10 +1,10 @@
 // Small demands over a few slots, in tables: how they are split, or that they ask for too much; and of a split that is kept, what
 // each step answers. All is worked by hand, and a row costs no proof. Each is asked by a function that answers yes or no, and no where
 // memory lacks.
-ghost use Rattle.std.specs.{Prelude.{◌≡◌, ◌↔◌, ◌<◌, ◌≤◌, [], ◌∷◌, ◌++◌, length, slice_set, pos, IsTrue, IfOk}, List.{All}};
+ghost use Rattle.std.specs.{Prelude.{◌≡◌, ◌↔◌, ◌<◌, ◌≤◌, [], ◌∷◌, ◌++◌, length, slice_set, slice_index_or, pos, ◌+ℤ◌, IsTrue, IfOk, IfSome}, List.{All}};
 ghost use Rattle.sfm_assign.specs.Splits.{IsAmount, IsCapacity};
 
-use sfm_assign::{AssignEnd, Demand, Kept, Split, assign, most};
+use sfm_assign::{AssignEnd, Change, Demand, Kept, Split, assign, most};
 use sfm_base::{Memory, Set};
 use std::alloc::Global;
 use std::process::Abort;
@@ -264,6 +264,8 @@ enum Step {
     Reach(usize, &'static [usize]),
     /// Other amounts and capacities, and, where these can't be split, what each set that asks for too much has.
     Bring(&'static [i128], &'static [i128], &'static [usize]),
+    /// A demand and by how much it changes, and, where that can't be split, what each set that asks for too much has.
+    Change(usize, i128, &'static [usize]),
     /// A demand that is raised up to so much, and by how much.
     Grow(usize, i128, i128),
 }
@@ -319,6 +321,36 @@ fn brings(
     }
 }
 
+/// What a demand asks for once that changes, if it can be asked for.
+fn changed_amount(held: &Held, k: usize, more: i128) -> Option<i128>
+    ensures place { IfSome result (λ _. k < length held.now.amounts.items) }
+    ensures sum { IfSome result (λ a. a ≡ slice_index_or held.now.amounts.items k (pos 0) +ℤ more) }
+    ensures amount { IfSome result IsAmount }
+{
+    if k >= held.amounts.len() {
+        return None;
+    }
+    match held.amounts[k].checked_add(more) {
+        Some(amount) if 0 <= amount && amount <= MOST_AMOUNT => Some(amount),
+        _ => None,
+    }
+}
+
+/// Whether the amount of one demand changes, or, where some demands lack then, each set that asks for too much has these.
+fn changes(alloc: Global, held: &mut Held, k: usize, more: i128, lacking: &[usize]) -> bool {
+    let Some(amount) = changed_amount(held, k, more) else {
+        return false;
+    };
+    let n = held.amounts.len();
+    match held.kept.bring_changed(alloc, &[Change { k, more }]) {
+        Ok(()) => {
+            held.amounts[k] = amount;
+            lacking.is_empty()
+        }
+        Err(end) => !lacking.is_empty() && is_shortage(&end, n, lacking),
+    }
+}
+
 /// Raises a demand up to a limit, and tells by how much.
 fn grow(
     rt: &impl Abort,
@@ -346,6 +378,7 @@ fn answers(rt: &impl Abort, alloc: Global, held: &mut Held, step: Step) -> bool 
         Step::Bring(amounts, capacities, lacking) => {
             brings(alloc, held, amounts, capacities, lacking)
         }
+        Step::Change(k, more, lacking) => changes(alloc, held, k, more, lacking),
         Step::Grow(u, limit, more) => grow(rt, alloc, held, u, limit) == Ok(more),
     }
 }
@@ -407,7 +440,7 @@ const RING: Asking = Asking {
 };
 
 /// Demands, and what they answer.
-const ROWS: [(Asking, Wanted); 15] = [
+const ROWS: [(Asking, Wanted); 16] = [
     (
         Asking {
             capacities: TWO,
@@ -502,6 +535,21 @@ const ROWS: [(Asking, Wanted); 15] = [
             Step::Bring(&[1, 0, 1, 1], &[1, 1, 1], &[]),
             Step::Reach(0, &[]),
             Step::Reach(1, &[0, 2]),
+        ]),
+    ),
+    (
+        IN_A_ROW,
+        Wanted::Steps(&[
+            Step::Reach(0, &[1, 2]),
+            Step::Change(1, -1, &[]),
+            Step::Reach(0, &[2, 3]),
+            Step::Change(0, 1, &[]),
+            Step::Reach(0, &[]),
+            Step::Change(1, 1, &[0, 1, 2]),
+            Step::Reach(1, &[0, 2]),
+            Step::Change(0, -1, &[]),
+            Step::Change(1, 1, &[]),
+            Step::Reach(0, &[1, 2]),
         ]),
     ),
     (

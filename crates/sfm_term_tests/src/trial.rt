@@ -67,12 +67,13 @@ fn tells_at<T: Term>(alloc: Global, term: &T, at: &At<'_>, u: usize, v: usize) -
     }
 }
 
-/// A new note that was brought up to an exchange.
+/// A new note that was brought up to an exchange, and was asked for its room before, or was not.
 fn note_behind<T: Term>(
     alloc: Global,
     term: &T,
     at: &At<'_>,
     swap: &Swap,
+    asked: bool,
 ) -> Result<T::Note, Memory>
     requires based { IsBased T.places T.value_of T.size_of term.now at.now.q at.now.x.now }
     requires can { CanSwap (times at.now.q (T.value_of term.now)) at.now.x.now swap.now.u swap.now.v
@@ -81,6 +82,9 @@ fn note_behind<T: Term>(
         (exchanged at.now.x.now swap.now.u swap.now.v swap.now.a)) }
 {
     let mut note = term.note(alloc, at)?;
+    if asked {
+        term.room_by(alloc, at, &mut note, swap)?;
+    }
     term.moved(alloc, at, &mut note, swap)?;
     Ok(note)
 }
@@ -98,8 +102,9 @@ fn behind<T: Term>(alloc: Global, term: &T, at: &At<'_>, swap: &Swap) -> Result<
     Ok(y)
 }
 
-/// Whether a note tells what it is to tell at the base that an exchange makes of another.
-fn tells_behind<T: Term>(alloc: Global, term: &T, at: &At<'_>, swap: &Swap) -> bool
+/// Whether a note tells what it is to tell at the base that an exchange makes of another, where it was asked for its room before, or
+/// was not.
+fn tells_behind<T: Term>(alloc: Global, term: &T, at: &At<'_>, swap: &Swap, asked: bool) -> bool
     requires based { IsBased T.places T.value_of T.size_of term.now at.now.q at.now.x.now }
     requires can { CanSwap (times at.now.q (T.value_of term.now)) at.now.x.now swap.now.u swap.now.v
         swap.now.a }
@@ -107,7 +112,7 @@ fn tells_behind<T: Term>(alloc: Global, term: &T, at: &At<'_>, swap: &Swap) -> b
     let Ok(y) = behind(alloc, term, at, swap) else {
         return false;
     };
-    let Ok(mut note) = note_behind(alloc, term, at, swap) else {
+    let Ok(mut note) = note_behind(alloc, term, at, swap, asked) else {
         return false;
     };
     let moved = At {
@@ -128,7 +133,8 @@ fn is_room<T: Term>(alloc: Global, term: &T, at: &At<'_>, u: usize, v: usize, nu
             a == number
                 && 0 <= a
                 && a <= MOST_ENTRY
-                && tells_behind(alloc, term, at, &Swap { u, v, a })
+                && tells_behind(alloc, term, at, &Swap { u, v, a }, false)
+                && tells_behind(alloc, term, at, &Swap { u, v, a }, true)
         }
         Ok(Room::Unbounded) => number == NO,
         Err(_) => false,
