@@ -1,19 +1,19 @@
 -- A file is read behind others, and what is prepared behind it is prepared for the whole task.
-use Rattle.std.proofs.Common.{ℕ, List, [], ◌∷◌, Result, Ok, Err, refl, ◌∙◌, ap, inl, inr}
-use Rattle.std.specs.Prelude.{IfOk}
+use Rattle.std.proofs.Common.{◌≡◌, ℕ, List, [], ◌∷◌, Result, Ok, Err, IsErrAnd, refl, sym, subst, ◌∙◌, ap, inl, inr}
 use Rattle.sfm_io.specs.Faults.{Rose}
 use Rattle.sfm_io.specs.Shelf.{ShelfState, KeepsShelf}
 use Rattle.sfm_io.proofs.ShelfLemmas.{KeepsShelf-refl, KeepsShelf-trans}
 use Rattle.sfm_due.specs.declared.due.Due.{Due}
 use Rattle.sfm_due.specs.declared.status.Status.{Status}
-use Rattle.sfm_base.specs.declared.memory.Memory.{Memory as OutOfMemory}
+use Rattle.sfm_due.specs.declared.status.Status.TheVariants.{Memory}
 use Rattle.sfm_due.specs.Status.{code_of}
 use Rattle.sfm_due.specs.Files.{IsNamed, IsSurelyHeld, MissesText}
 use Rattle.sfm_due.specs.Owing.{IsMade}
 use Rattle.sfm_due.proofs.ReadLemmas.{rose_later}
-use Rattle.sfm_run.specs.declared.open.Opened.TheVariants.{Good, Faulty}
+use Rattle.sfm_run.specs.declared.stop.Stop.{Stop}
+use Rattle.sfm_run.specs.declared.stop.Stop.TheVariants.{Failed, Faulty}
 use Rattle.sfm_run.specs.Task.{Along, FailsAt, File, IsAfter, IsDueAt, IsNext, StopsAt, Task, Log, and_file, ends, nothing_read, reads}
-use Rattle.sfm_run.specs.Preparing.{OpensFile, PassesOn, Prepares, PreparesFrom, ReadsFile}
+use Rattle.sfm_run.specs.Preparing.{OpensFile, Prepares, PreparesFrom, ReadsFile, settled}
 
 -- a shelf of which nothing was read
 pub stays : (shelf : ShelfState) → IsAfter nothing_read shelf shelf
@@ -56,9 +56,10 @@ module _ {X : Type 0} (file : File X) (shelf mid after : ShelfState) (log : Log)
   named r = named_before shelf mid file.name r.text before.kept r.named
 
 -- the file was not read
-pub misses : {V X : Type 0} (view : V → X) (file : File X) (rest : X → Task)
+misses : {V X : Type 0} (view : V → X) (file : File X) (rest : X → Task)
     (mid after : ShelfState) (status : Status)
-    → OpensFile view file mid after (Err status) → Prepares (reads file rest) mid after (Err status)
+    → OpensFile view file mid after (Err (Failed status))
+    → Prepares (reads file rest) mid after (Err status)
 misses view file rest mid after status (kept, inl (fault, miss)) shelf log before =
     let m = missed_before shelf mid after file.name before.kept miss in
     inl (
@@ -73,9 +74,9 @@ misses view file rest mid after status (kept, inr memory) shelf log before =
     inr (memory, inl (inr (KeepsShelf-trans log.names (file.name ∷ []) before.kept kept)))
 
 -- its text is not good
-pub refuses : {V X : Type 0} (view : V → X) (file : File X) (rest : X → Task)
+refuses : {V X : Type 0} (view : V → X) (file : File X) (rest : X → Task)
     (mid after : ShelfState) (due : Due)
-    → OpensFile view file mid after (Ok (Faulty due))
+    → OpensFile view file mid after (Err (Faulty due))
     → Prepares (reads file rest) mid after (Ok due)
 refuses view file rest mid after due (r, refused) shelf log before = (
   inl (
@@ -87,6 +88,20 @@ refuses view file rest mid after due (r, refused) shelf log before = (
   ),
   inr (inr refused),
 )
+
+-- so it stops a command, and that is passed on
+pub stops : {V X : Type 0} (view : V → X) (file : File X) (rest : X → Task)
+    (mid after : ShelfState) (result : Result Due Stop) (stop : Stop)
+    → OpensFile view file mid after (Err stop) → IsErrAnd result (λ s. s ≡ stop)
+    → Prepares (reads file rest) mid after (settled result)
+stops view file rest mid after (Ok due) stop h is = absurd is
+stops view file rest mid after (Err s) stop h is =
+    subst (λ (s : Stop). Prepares (reads file rest) mid after (settled (Err s))) (sym is)
+    (at stop h) where
+      at : (stop : Stop) → OpensFile view file mid after (Err stop)
+          → Prepares (reads file rest) mid after (settled (Err stop))
+      at (Faulty due) h = refuses view file rest mid after due h
+      at (Failed status) h = misses view file rest mid after status h
 
 -- its text is good, and what is prepared behind it
 pub behind : {X : Type 0} (file : File X) (rest : X → Task) (x : X) (mid after last : ShelfState)
@@ -112,19 +127,23 @@ behind file rest x mid after last result r then shelf log before =
 
 pub goes_on : {V X : Type 0} (view : V → X) (file : File X) (rest : X → Task) (v : V)
     (mid after last : ShelfState) (result : Result Due Status)
-    → OpensFile view file mid after (Ok (Good v)) → Prepares (rest (view v)) after last result
+    → OpensFile view file mid after (Ok v) → Prepares (rest (view v)) after last result
     → Prepares (reads file rest) mid last result
 goes_on view file rest v mid after last result r then =
     behind file rest (view v) mid after last result r then
 
--- a text was made without the shelf, or memory ran out
-pub made : (IsDue : List ℕ → ℕ → Type 0) (given : Result Due OutOfMemory)
-    (result : Result Due Status) (mid : ShelfState) → IfOk given (IsMade IsDue)
-    → PassesOn given result → Prepares (ends IsDue) mid mid result
-made IsDue (Ok due) (Ok same) mid h is shelf log before = rw is ((h.owed, before), h.answered)
-made IsDue (Ok due) (Err status) mid h is shelf log before = inr (is, before)
-made IsDue (Err m) (Ok same) mid h is shelf log before = absurd is
-made IsDue (Err m) (Err status) mid h is shelf log before = inr (is, before)
+-- a text was made without the shelf
+pub made : (IsDue : List ℕ → ℕ → Type 0) (due : Due) (mid : ShelfState) → IsMade IsDue due
+    → Prepares (ends IsDue) mid mid (Ok due)
+made IsDue due mid h shelf log before = ((h.owed, before), h.answered)
+
+-- or memory ran out
+pub not_made : (IsDue : List ℕ → ℕ → Type 0) (mid : ShelfState) (result : Result Due Stop)
+    → IsErrAnd result (λ s. s ≡ Failed Memory) → Prepares (ends IsDue) mid mid (settled result)
+not_made IsDue mid (Ok due) is = absurd is
+not_made IsDue mid (Err stop) is =
+    subst (λ (s : Stop). Prepares (ends IsDue) mid mid (settled (Err s))) (sym is)
+    (λ shelf log before. inr (refl, before))
 
 -- a shelf that surely holds what is needed fails nowhere
 pub no_failure : (task : Task) (log : Log) (shelf shelf' : ShelfState)

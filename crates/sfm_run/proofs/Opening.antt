@@ -1,5 +1,5 @@
 -- What was read of a file makes what opening it gives.
-use Rattle.std.proofs.Common.{ℕ, List, [], ◌∷◌, codes, ◌≤ℤ◌, Option, None, Result, Ok, Err, refl, inl, inr}
+use Rattle.std.proofs.Common.{◌≡◌, ℕ, List, [], ◌∷◌, codes, ◌≤ℤ◌, Option, None, Result, Ok, Err, IsErrAnd, refl, inl, inr}
 use Rattle.std.specs.Prelude.{Vec}
 use Rattle.std.specs.Global.{Global}
 use Rattle.sfm_io.specs.Shelf.{ShelfState, KeepsShelf}
@@ -28,19 +28,19 @@ use Rattle.sfm_text.specs.declared.reader.Numbered.{Numbered}
 use Rattle.sfm_pair.specs.declared.clash.Clash.{Clash}
 use Rattle.sfm_pair.specs.Pair.{IsClashOf}
 use Rattle.sfm_pair.specs.Sides.{lined_of}
-use Rattle.sfm_run.specs.declared.open.Opened.{Opened}
-use Rattle.sfm_run.specs.declared.open.Opened.TheVariants.{Good, Faulty}
+use Rattle.sfm_run.specs.declared.stop.Stop.{Stop}
+use Rattle.sfm_run.specs.declared.stop.Stop.TheVariants.{Failed, Faulty}
 use Rattle.sfm_run.specs.Task.{Task, reads}
 use Rattle.sfm_run.specs.Files.{answer_file, left_file, level_file, right_file, side_file}
 use Rattle.sfm_run.specs.Tasks.{main_file}
-use Rattle.sfm_run.specs.Preparing.{IsClashing, IsFaulty, OpensFile, Prepares, Tells}
-use Rattle.sfm_run.proofs.Joining.{behind, misses}
+use Rattle.sfm_run.specs.Preparing.{IsClashing, IsFaulty, OpensFile, Prepares, Tells, settled}
+use Rattle.sfm_run.proofs.Joining.{behind, stops}
 
 -- a good instance
 pub opens : (name : List ℕ) (before after : ShelfState) (reader : Reader) (instance : InstanceData)
     → KeepsShelf (name ∷ []) before after → FeedsText name before after (Ok reader)
     → ((text : List ℕ) → Stands reader text → IsTextOf text instance)
-    → OpensFile question_of (main_file name) before after (Ok (Good instance))
+    → OpensFile question_of (main_file name) before after (Ok instance)
 opens name before after reader instance kept (text, stands, named, read) good = record {
   text = text;
   named = named;
@@ -52,12 +52,11 @@ opens name before after reader instance kept (text, stands, named, read) good = 
 -- a text beside an instance that is too long
 pub opens_long : {D V X : Type 0} (view : V → X) (word : List ℕ) (form : SideForm D)
     (Says : D → X → Type 0) (name : List ℕ) (before after : ShelfState)
-    (result : Result (Opened V) Status)
+    (stop : Stop)
     → KeepsShelf (name ∷ []) before after → ReadsText text_limit name before after (Ok None)
-    → IsFaulty word 0 Long result → OpensFile view (side_file word form Says name) before after
-    result
-opens_long view word form Says name before after (Ok (Good v)) kept fed is = absurd is
-opens_long view word form Says name before after (Ok (Faulty due)) kept (text, more, named, read)
+    → IsFaulty word 0 Long stop → OpensFile view (side_file word form Says name) before after
+    (Err stop)
+opens_long view word form Says name before after (Faulty due) kept (text, more, named, read)
     (is, refused) = (
       record {
         text = text;
@@ -68,7 +67,8 @@ opens_long view word form Says name before after (Ok (Faulty due)) kept (text, m
       },
       refused,
     )
-opens_long view word form Says name before after (Err status) kept fed memory = (kept, inr memory)
+opens_long view word form Says name before after (Failed status) kept fed memory =
+    (kept, inr memory)
 
 -- an answer was read, and what was then made
 pub answers : (name : List ℕ) (rest : List ℕ → Task) (mid after : ShelfState)
@@ -83,36 +83,36 @@ answers name rest mid after bytes result kept (text, is, named, read) then =
 
 -- an answer was not read
 pub misses_answer : (name : List ℕ) (rest : List ℕ → Task) (mid after : ShelfState)
-    (status : Status) → KeepsShelf (name ∷ []) mid after
+    (result : Result Due Stop) (status : Status) → KeepsShelf (name ∷ []) mid after
     → ReadsText answer_limit name mid after (Err status)
-    → Prepares (reads (answer_file name) rest) mid after (Err status)
-misses_answer name rest mid after status kept miss =
-    misses (λ (text : List ℕ). text) (answer_file name) rest mid after status (kept, miss)
+    → IsErrAnd result (λ s. s ≡ Failed status)
+    → Prepares (reads (answer_file name) rest) mid after (settled result)
+misses_answer name rest mid after result status kept miss is =
+    stops (λ (text : List ℕ). text) (answer_file name) rest mid after result (Failed status)
+    (kept, miss) is
 
 -- an instance of which the most level base is asked for
 pub opens_level : (name : List ℕ) (before after : ShelfState) (reader : Reader)
-    (result : Result (Opened InstanceData) Status) → KeepsShelf (name ∷ []) before after
+    (result : Result InstanceData Stop) → KeepsShelf (name ∷ []) before after
     → FeedsText name before after (Ok reader)
     → ((text : List ℕ) → Stands reader text → Tells question_of (level_file []) text result)
     → OpensFile question_of (level_file name) before after result
-opens_level name before after reader (Ok (Good v)) kept (text, stands, named, read) told =
+opens_level name before after reader (Ok v) kept (text, stands, named, read) told =
     record { text = text; named = named; kept = kept; read = read; holds = told text stands }
-opens_level name before after reader (Ok (Faulty due)) kept (text, stands, named, read) told = (
+opens_level name before after reader (Err (Faulty due)) kept (text, stands, named, read) told = (
   record { text = text; named = named; kept = kept; read = read; holds = (told text stands).0 },
   (told text stands).1,
 )
-opens_level name before after reader (Err status) kept (text, stands, named, read) told =
+opens_level name before after reader (Err (Failed status)) kept (text, stands, named, read) told =
     (kept, inr (told text stands))
 
 -- one whose sizes add to too much
 pub tells_too_large : (text : List ℕ) (instance : InstanceData) (ground : ℕ) (lines : List ℕ)
-    (line : ℕ)
-    (result : Result (Opened InstanceData) Status) → IsTextOf text instance
+    (line : ℕ) (stop : Stop) → IsTextOf text instance
     → AreNumbersOf text ground instance.lines lines → PassesAt instance.terms lines line
-    → IsFaulty (codes "refused") line Total result
-    → Tells question_of (level_file []) text result
-tells_too_large text instance ground lines line (Ok (Good v)) good numbered passes is = absurd is
-tells_too_large text instance ground lines line (Ok (Faulty due)) good numbered passes
+    → IsFaulty (codes "refused") line Total stop
+    → Tells question_of (level_file []) text (Err stop)
+tells_too_large text instance ground lines line (Faulty due) good numbered passes
     (is, refused) = (
       record {
         line = line;
@@ -122,24 +122,23 @@ tells_too_large text instance ground lines line (Ok (Faulty due)) good numbered 
       },
       refused,
     )
-tells_too_large text instance ground lines line (Err status) good numbered passes memory = memory
+tells_too_large text instance ground lines line (Failed status) good numbered passes memory = memory
 
 -- one whose sizes do not
 pub tells_small : (text : List ℕ) (instance : InstanceData) → IsTextOf text instance
     → total_size_of instance.terms ≤ℤ level_limit
-    → Tells question_of (level_file []) text (Ok (Good instance))
+    → Tells question_of (level_file []) text (Ok instance)
 tells_small text instance good small =
     (record { good = good; means = kinds-mean instance.terms }, small-enough instance small)
 
 -- a text with a fault
 pub opens_level_faulty : (name : List ℕ) (before after : ShelfState) (reader : Reader)
-    (line : ℕ) (reason : Reason) (result : Result (Opened InstanceData) Status)
+    (line : ℕ) (reason : Reason) (stop : Stop)
     → KeepsShelf (name ∷ []) before after → FeedsText name before after (Ok reader)
     → ((text : List ℕ) → Stands reader text → IsFaultOf text line reason)
-    → IsFaulty (codes "refused") line reason result
-    → OpensFile question_of (level_file name) before after result
-opens_level_faulty name before after reader line reason (Ok (Good v)) kept fed fault is = absurd is
-opens_level_faulty name before after reader line reason (Ok (Faulty due)) kept
+    → IsFaulty (codes "refused") line reason stop
+    → OpensFile question_of (level_file name) before after (Err stop)
+opens_level_faulty name before after reader line reason (Faulty due) kept
     (text, stands, named, read) fault (is, refused) = (
       record {
         text = text;
@@ -155,7 +154,7 @@ opens_level_faulty name before after reader line reason (Ok (Faulty due)) kept
       },
       refused,
     )
-opens_level_faulty name before after reader line reason (Err status) kept fed fault memory =
+opens_level_faulty name before after reader line reason (Failed status) kept fed fault memory =
     (kept, inr memory)
 
 -- a text of either side
@@ -173,7 +172,7 @@ pub opens_left : (name : List ℕ) (before after : ShelfState) (reader : Reader)
     → ((text : List ℕ) → Stands reader text → IsTextOf text side.instance)
     → ((text : List ℕ) → Stands reader text → AreNumbersOf text side.ground_line side.instance.lines
     side.term_lines.items)
-    → OpensFile lined_of (left_file name) before after (Ok (Good side))
+    → OpensFile lined_of (left_file name) before after (Ok side)
 opens_left name before after reader side kept (text, stands, named, read) good numbered = record {
   text = text;
   named = named;
@@ -184,30 +183,29 @@ opens_left name before after reader side kept (text, stands, named, read) good n
 
 -- the right one, told by what it says behind the left
 pub opens_right : (left : Lined) (name : List ℕ) (before after : ShelfState) (reader : Reader)
-    (result : Result (Opened Numbered) Status) → KeepsShelf (name ∷ []) before after
+    (result : Result Numbered Stop) → KeepsShelf (name ∷ []) before after
     → FeedsText name before after (Ok reader)
     → ((text : List ℕ) → Stands reader text → Tells lined_of (right_file left []) text result)
     → OpensFile lined_of (right_file left name) before after result
-opens_right left name before after reader (Ok (Good v)) kept (text, stands, named, read) told =
+opens_right left name before after reader (Ok v) kept (text, stands, named, read) told =
     record { text = text; named = named; kept = kept; read = read; holds = told text stands }
-opens_right left name before after reader (Ok (Faulty due)) kept (text, stands, named, read) told = (
+opens_right left name before after _ (Err (Faulty due)) kept (text, stands, named, read) told = (
   record { text = text; named = named; kept = kept; read = read; holds = (told text stands).0 },
   (told text stands).1,
 )
-opens_right left name before after reader (Err status) kept (text, stands, named, read) told =
+opens_right left name before after reader (Err (Failed status)) kept (text, stands, named, read)
+    told =
     (kept, inr (told text stands))
 
 -- one with a fault
 pub opens_right_faulty : (left : Lined) (name : List ℕ) (before after : ShelfState)
     (reader : Reader)
-    (line : ℕ) (reason : Reason) (result : Result (Opened Numbered) Status)
+    (line : ℕ) (reason : Reason) (stop : Stop)
     → KeepsShelf (name ∷ []) before after → FeedsText name before after (Ok reader)
     → ((text : List ℕ) → Stands reader text → IsFaultOf text line reason)
-    → IsFaulty (codes "right") line reason result
-    → OpensFile lined_of (right_file left name) before after result
-opens_right_faulty left name before after reader line reason (Ok (Good v)) kept fed fault is =
-    absurd is
-opens_right_faulty left name before after reader line reason (Ok (Faulty due)) kept
+    → IsFaulty (codes "right") line reason stop
+    → OpensFile lined_of (right_file left name) before after (Err stop)
+opens_right_faulty left name before after reader line reason (Faulty due) kept
     (text, stands, named, read) fault (is, refused) = (
       record {
         text = text;
@@ -223,17 +221,16 @@ opens_right_faulty left name before after reader line reason (Ok (Faulty due)) k
       },
       refused,
     )
-opens_right_faulty left name before after reader line reason (Err status) kept fed fault memory =
+opens_right_faulty left name before after reader line reason (Failed status) kept fed fault memory =
     (kept, inr memory)
 
 -- one that does not go together with the left
 pub tells_clash : (left : Lined) (text : List ℕ) (right : Numbered) (clash : Clash) (line : ℕ)
-    (result : Result (Opened Numbered) Status) → IsLined text (lined_of right)
-    → IsClashOf left (lined_of right) clash line → IsClashing clash line result
-    → Tells lined_of (right_file left []) text result
-tells_clash left text right clash line (Ok (Good v)) lined is named = absurd named
-tells_clash left text right clash line (Ok (Faulty due)) lined is (named, refused) = (
+    (stop : Stop) → IsLined text (lined_of right)
+    → IsClashOf left (lined_of right) clash line → IsClashing clash line stop
+    → Tells lined_of (right_file left []) text (Err stop)
+tells_clash left text right clash line (Faulty due) lined is (named, refused) = (
   inr (lined_of right, lined, clash, line, is, named),
   refused,
 )
-tells_clash left text right clash line (Err status) lined is memory = memory
+tells_clash left text right clash line (Failed status) lined is memory = memory

@@ -1,5 +1,5 @@
 // One call of the program, from its words to its status.
-ghost use Rattle.std.specs.Prelude.{◌≡◌, ◌⊎◌, ◌+◌, ◌≤◌, ℕ, List, [], ◌∷◌, map, length, codes, MatchOption};
+ghost use Rattle.std.specs.Prelude.{◌≡◌, ◌≤◌, ℕ, map};
 ghost use Rattle.sfm_words.specs.Command.{command_of, demo as Showing};
 ghost use Rattle.sfm_run.specs.{Headline.{EndsFor, EndsBy, EndsByForm, Prints, Complains, IsComplete}, Tasks.{task_of}};
 

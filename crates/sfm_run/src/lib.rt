@@ -5,5 +5,6 @@
 mod call;
 mod open;
 mod prepare;
+mod stop;
 
 pub use call::{complain, run};

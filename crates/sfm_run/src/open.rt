@@ -8,9 +8,10 @@ ghost use Rattle.sfm_due.specs.{Level.{level_limit}, Meanings.{question_of}};
 ghost use Rattle.sfm_due.specs.Lined.{IsLined};
 ghost use Rattle.sfm_meet.specs.Meetable.{AreMeetable};
 ghost use Rattle.sfm_pair.specs.Sides.{lined_of};
-ghost use Rattle.sfm_run.specs.{Files.{edits_file, left_file, level_file, pins_file, right_file, sizes_file}, Preparing.{IfGood, IsClashing, IsFaulty, OpensFile, Tells, items_of}, Tasks.{main_file}};
+ghost use Rattle.sfm_run.specs.{Files.{edits_file, left_file, level_file, pins_file, right_file, sizes_file}, Preparing.{IsClashing, IsFaulty, OpensFile, Tells, items_of}, Tasks.{main_file}};
 
-use sfm_due::{Due, Status, feed_text, read_text, refuse, too_large};
+use crate::stop::Stop;
+use sfm_due::{Status, feed_text, read_text, refuse, too_large};
 use sfm_edit::apply;
 use sfm_io::Shelf;
 use sfm_kind::Instance;
@@ -19,55 +20,39 @@ use sfm_side::{Pins, read_pins, read_sizes};
 use sfm_text::{Numbered, Reason, TEXT_LIMIT, TextEnd};
 use std::alloc::Global;
 
-/// What a good text stands for, or what is due for one that is not good.
-#[derive(Drop)]
-pub enum Opened<T> {
-    Good(T),
-    Faulty(Due),
-}
-
-/// What is due for a text with this fault, which that word refuses.
-fn faulty<T: Drop>(
-    alloc: Global,
-    word: &[u8],
-    line: usize,
-    reason: Reason,
-) -> Result<Opened<T>, Status>
+/// What a text with this fault comes to, which that word refuses.
+fn faulty(alloc: Global, word: &[u8], line: usize, reason: Reason) -> Stop
     ensures { IsFaulty word.now line reason result }
 {
     match refuse(alloc, word, line, reason) {
-        Ok(due) => Ok(Opened::Faulty(due)),
-        Err(_) => Err(Status::Memory),
+        Ok(due) => Stop::Faulty(due),
+        Err(_) => Stop::Failed(Status::Memory),
     }
 }
 
 /// Opens a file with the instance that a command is about.
-pub fn open_instance<S: Shelf>(
-    alloc: Global,
-    shelf: &mut S,
-    file: &str,
-) -> Result<Opened<Instance>, Status>
+pub fn open_instance<S: Shelf>(alloc: Global, shelf: &mut S, file: &str) -> Result<Instance, Stop>
     ensures { OpensFile question_of (main_file file.now) (S.state shelf.old) (S.state shelf.new)
         result }
 {
     let reader = feed_text(alloc, shelf, file)?;
     match reader.finish(alloc) {
-        Ok(instance) => Ok(Opened::Good(instance)),
-        Err(TextEnd::Refused { line, reason }) => faulty(alloc, b"refused", line, reason),
-        Err(TextEnd::Memory) => Err(Status::Memory),
+        Ok(instance) => Ok(instance),
+        Err(TextEnd::Refused { line, reason }) => Err(faulty(alloc, b"refused", line, reason)),
+        Err(TextEnd::Memory) => Err(Stop::Failed(Status::Memory)),
     }
 }
 
 /// The sizes that a text gives the elements of an instance, or what is due for a text with a fault.
-fn sizes_in(alloc: Global, instance: &Instance, text: &[u8]) -> Result<Opened<Vec<i128>>, Status>
+fn sizes_in(alloc: Global, instance: &Instance, text: &[u8]) -> Result<Vec<i128>, Stop>
     ensures told { Tells items_of (sizes_file (question_of instance.now) []) text.now result }
-    ensures sizes { IfOk result (IfGood (λ v. AreElementSizes (length instance.now.names)
-        (items_of v))) }
+    ensures sizes { IfOk result (λ v. AreElementSizes (length instance.now.names)
+        (items_of v)) }
 {
     match read_sizes(alloc, instance, text) {
-        Ok(sizes) => Ok(Opened::Good(sizes)),
-        Err(TextEnd::Refused { line, reason }) => faulty(alloc, b"sizes", line, reason),
-        Err(TextEnd::Memory) => Err(Status::Memory),
+        Ok(sizes) => Ok(sizes),
+        Err(TextEnd::Refused { line, reason }) => Err(faulty(alloc, b"sizes", line, reason)),
+        Err(TextEnd::Memory) => Err(Stop::Failed(Status::Memory)),
     }
 }
 
@@ -77,28 +62,27 @@ pub fn open_sizes<S: Shelf>(
     shelf: &mut S,
     instance: &Instance,
     file: &str,
-) -> Result<Opened<Vec<i128>>, Status>
+) -> Result<Vec<i128>, Stop>
     ensures opened { OpensFile items_of (sizes_file (question_of instance.now) file.now)
         (S.state shelf.old) (S.state shelf.new) result }
-    ensures sizes { IfOk result (IfGood (λ v. AreElementSizes (length instance.now.names)
-        (items_of v))) }
+    ensures sizes { IfOk result (λ v. AreElementSizes (length instance.now.names)
+        (items_of v)) }
 {
-    match read_text(alloc, shelf, file, TEXT_LIMIT) {
-        Ok(Some(text)) => sizes_in(alloc, instance, text.as_slice()),
-        Ok(None) => faulty(alloc, b"sizes", 0, Reason::Long),
-        Err(status) => Err(status),
+    match read_text(alloc, shelf, file, TEXT_LIMIT)? {
+        Some(text) => sizes_in(alloc, instance, text.as_slice()),
+        None => Err(faulty(alloc, b"sizes", 0, Reason::Long)),
     }
 }
 
 /// The elements of an instance that a text pins, or what is due for a text with a fault.
-fn pins_in(alloc: Global, instance: &Instance, text: &[u8]) -> Result<Opened<Pins>, Status>
+fn pins_in(alloc: Global, instance: &Instance, text: &[u8]) -> Result<Pins, Stop>
     ensures told { Tells pins_of (pins_file (question_of instance.now) []) text.now result }
-    ensures over { IfOk result (IfGood (λ p. AreOver (length instance.now.names) (pins_of p))) }
+    ensures over { IfOk result (λ p. AreOver (length instance.now.names) (pins_of p)) }
 {
     match read_pins(alloc, instance, text) {
-        Ok(pins) => Ok(Opened::Good(pins)),
-        Err(TextEnd::Refused { line, reason }) => faulty(alloc, b"pins", line, reason),
-        Err(TextEnd::Memory) => Err(Status::Memory),
+        Ok(pins) => Ok(pins),
+        Err(TextEnd::Refused { line, reason }) => Err(faulty(alloc, b"pins", line, reason)),
+        Err(TextEnd::Memory) => Err(Stop::Failed(Status::Memory)),
     }
 }
 
@@ -108,92 +92,83 @@ pub fn open_pins<S: Shelf>(
     shelf: &mut S,
     instance: &Instance,
     file: &str,
-) -> Result<Opened<Pins>, Status>
+) -> Result<Pins, Stop>
     ensures opened { OpensFile pins_of (pins_file (question_of instance.now) file.now)
         (S.state shelf.old) (S.state shelf.new) result }
-    ensures over { IfOk result (IfGood (λ p. AreOver (length instance.now.names) (pins_of p))) }
+    ensures over { IfOk result (λ p. AreOver (length instance.now.names) (pins_of p)) }
 {
-    match read_text(alloc, shelf, file, TEXT_LIMIT) {
-        Ok(Some(text)) => pins_in(alloc, instance, text.as_slice()),
-        Ok(None) => faulty(alloc, b"pins", 0, Reason::Long),
-        Err(status) => Err(status),
+    match read_text(alloc, shelf, file, TEXT_LIMIT)? {
+        Some(text) => pins_in(alloc, instance, text.as_slice()),
+        None => Err(faulty(alloc, b"pins", 0, Reason::Long)),
     }
 }
 
 /// An instance of which the most level base is found, or what is due for one whose sizes add to too much.
-fn level_in(alloc: Global, numbered: Numbered) -> Result<Opened<Instance>, Status>
+fn level_in(alloc: Global, numbered: Numbered) -> Result<Instance, Stop>
     requires { length numbered.term_lines.items ≡ length numbered.instance.terms }
     ensures told { (text : List ℕ) → IsTextOf text numbered.instance
         → AreNumbersOf text numbered.ground_line
         numbered.instance.lines numbered.term_lines.items
         → Tells question_of (level_file []) text result }
-    ensures small { IfOk result (IfGood (λ instance. total_size_of instance.terms ≤ℤ level_limit)) }
+    ensures small { IfOk result (λ instance. total_size_of instance.terms ≤ℤ level_limit) }
 {
     match too_large(&numbered.instance, &numbered.term_lines) {
-        Some(line) => faulty(alloc, b"refused", line, Reason::Total),
-        None => Ok(Opened::Good(numbered.into_instance())),
+        Some(line) => Err(faulty(alloc, b"refused", line, Reason::Total)),
+        None => Ok(numbered.into_instance()),
     }
 }
 
 /// Opens a file with an instance of which the most level base is asked for: one whose sizes add to more than 10^13 is refused
 /// too, at the line at which they do.
-pub fn open_level<S: Shelf>(
-    alloc: Global,
-    shelf: &mut S,
-    file: &str,
-) -> Result<Opened<Instance>, Status>
+pub fn open_level<S: Shelf>(alloc: Global, shelf: &mut S, file: &str) -> Result<Instance, Stop>
     ensures opened { OpensFile question_of (level_file file.now) (S.state shelf.old)
         (S.state shelf.new) result }
-    ensures small { IfOk result (IfGood (λ instance. total_size_of instance.terms ≤ℤ level_limit)) }
+    ensures small { IfOk result (λ instance. total_size_of instance.terms ≤ℤ level_limit) }
 {
     let reader = feed_text(alloc, shelf, file)?;
     match reader.finish_numbered(alloc) {
         Ok(numbered) => level_in(alloc, numbered),
-        Err(TextEnd::Refused { line, reason }) => faulty(alloc, b"refused", line, reason),
-        Err(TextEnd::Memory) => Err(Status::Memory),
+        Err(TextEnd::Refused { line, reason }) => Err(faulty(alloc, b"refused", line, reason)),
+        Err(TextEnd::Memory) => Err(Stop::Failed(Status::Memory)),
     }
 }
 
 /// Opens the left of two files with instances, of which the common vectors are asked for.
-pub fn open_left<S: Shelf>(
-    alloc: Global,
-    shelf: &mut S,
-    file: &str,
-) -> Result<Opened<Numbered>, Status>
+pub fn open_left<S: Shelf>(alloc: Global, shelf: &mut S, file: &str) -> Result<Numbered, Stop>
     ensures opened { OpensFile lined_of (left_file file.now) (S.state shelf.old)
         (S.state shelf.new) result }
-    ensures counted { IfOk result (IfGood (λ side. length side.term_lines.items
-        ≡ length side.instance.terms)) }
+    ensures counted { IfOk result (λ side. length side.term_lines.items
+        ≡ length side.instance.terms) }
 {
     let reader = feed_text(alloc, shelf, file)?;
     match reader.finish_numbered(alloc) {
-        Ok(numbered) => Ok(Opened::Good(numbered)),
-        Err(TextEnd::Refused { line, reason }) => faulty(alloc, b"left", line, reason),
-        Err(TextEnd::Memory) => Err(Status::Memory),
+        Ok(numbered) => Ok(numbered),
+        Err(TextEnd::Refused { line, reason }) => Err(faulty(alloc, b"left", line, reason)),
+        Err(TextEnd::Memory) => Err(Stop::Failed(Status::Memory)),
     }
 }
 
-/// What is due for two good texts that do not go together.
-fn clashing<T: Drop>(alloc: Global, clash: Clash, line: usize) -> Result<Opened<T>, Status>
+/// What two good texts come to that do not go together.
+fn clashing(alloc: Global, clash: Clash, line: usize) -> Stop
     ensures { IsClashing clash line result }
 {
     match refuse_clash(alloc, clash, line) {
-        Ok(due) => Ok(Opened::Faulty(due)),
-        Err(_) => Err(Status::Memory),
+        Ok(due) => Stop::Faulty(due),
+        Err(_) => Stop::Failed(Status::Memory),
     }
 }
 
 /// An instance beside another one, or what is due where they do not go together.
-fn beside(alloc: Global, left: &Numbered, right: Numbered) -> Result<Opened<Numbered>, Status>
+fn beside(alloc: Global, left: &Numbered, right: Numbered) -> Result<Numbered, Stop>
     requires left { length left.now.term_lines.items ≡ length left.now.instance.terms }
     requires right { length right.term_lines.items ≡ length right.instance.terms }
     ensures told { (text : List ℕ) → IsLined text (lined_of right)
         → Tells lined_of (right_file (lined_of left.now) []) text result }
-    ensures meetable { IfOk result (IfGood (λ r. AreMeetable left.now.instance r.instance)) }
+    ensures meetable { IfOk result (λ r. AreMeetable left.now.instance r.instance) }
 {
     match clash_of(left, &right) {
-        Some((clash, line)) => clashing(alloc, clash, line),
-        None => Ok(Opened::Good(right)),
+        Some((clash, line)) => Err(clashing(alloc, clash, line)),
+        None => Ok(right),
     }
 }
 
@@ -203,28 +178,28 @@ pub fn open_right<S: Shelf>(
     shelf: &mut S,
     left: &Numbered,
     file: &str,
-) -> Result<Opened<Numbered>, Status>
+) -> Result<Numbered, Stop>
     requires { length left.now.term_lines.items ≡ length left.now.instance.terms }
     ensures opened { OpensFile lined_of (right_file (lined_of left.now) file.now)
         (S.state shelf.old) (S.state shelf.new) result }
-    ensures meetable { IfOk result (IfGood (λ r. AreMeetable left.now.instance r.instance)) }
+    ensures meetable { IfOk result (λ r. AreMeetable left.now.instance r.instance) }
 {
     let reader = feed_text(alloc, shelf, file)?;
     match reader.finish_numbered(alloc) {
         Ok(numbered) => beside(alloc, left, numbered),
-        Err(TextEnd::Refused { line, reason }) => faulty(alloc, b"right", line, reason),
-        Err(TextEnd::Memory) => Err(Status::Memory),
+        Err(TextEnd::Refused { line, reason }) => Err(faulty(alloc, b"right", line, reason)),
+        Err(TextEnd::Memory) => Err(Stop::Failed(Status::Memory)),
     }
 }
 
 /// The instance that edits lead to, or what is due for a text of edits with a fault.
-fn edits_in(alloc: Global, instance: Instance, text: &[u8]) -> Result<Opened<Instance>, Status>
+fn edits_in(alloc: Global, instance: Instance, text: &[u8]) -> Result<Instance, Stop>
     ensures { Tells question_of (edits_file (question_of instance) []) text.now result }
 {
     match apply(alloc, instance, text) {
-        Ok(edited) => Ok(Opened::Good(edited.into_instance())),
-        Err(TextEnd::Refused { line, reason }) => faulty(alloc, b"edits", line, reason),
-        Err(TextEnd::Memory) => Err(Status::Memory),
+        Ok(edited) => Ok(edited.into_instance()),
+        Err(TextEnd::Refused { line, reason }) => Err(faulty(alloc, b"edits", line, reason)),
+        Err(TextEnd::Memory) => Err(Stop::Failed(Status::Memory)),
     }
 }
 
@@ -234,13 +209,12 @@ pub fn open_edits<S: Shelf>(
     shelf: &mut S,
     instance: Instance,
     file: &str,
-) -> Result<Opened<Instance>, Status>
+) -> Result<Instance, Stop>
     ensures { OpensFile question_of (edits_file (question_of instance) file.now)
         (S.state shelf.old) (S.state shelf.new) result }
 {
-    match read_text(alloc, shelf, file, TEXT_LIMIT) {
-        Ok(Some(text)) => edits_in(alloc, instance, text.as_slice()),
-        Ok(None) => faulty(alloc, b"edits", 0, Reason::Long),
-        Err(status) => Err(status),
+    match read_text(alloc, shelf, file, TEXT_LIMIT)? {
+        Some(text) => edits_in(alloc, instance, text.as_slice()),
+        None => Err(faulty(alloc, b"edits", 0, Reason::Long)),
     }
 }

@@ -6,8 +6,8 @@ use Rattle.sfm_due.specs.Meanings.{question_of}
 use Rattle.sfm_run.proofs.Opening.{opens_long}
 use Rattle.sfm_run.proofs.open.open_edits.Goals as goal
 
-pub returns-in-Ok-None : goal.returns-in-Ok-None
-returns-in-Ok-None g c = opens_long question_of (codes "edits") (edits_form c.args.instance)
+pub returns-in-None : goal.returns-in-None
+returns-in-None g c = opens_long question_of (codes "edits") (edits_form c.args.instance)
     (λ e edited. (edited.instance ≡ e.instance) × AllZip IsMeaningOf e.instance.terms edited.meant)
-    c.args.file.now _ _ c.faulty.result c.in-Ok-None.ensures.kept
-    (rw c.in-Ok-None.field-0-is at c.in-Ok-None.ensures.read) c.faulty.ensures
+    c.args.file.now _ _ c.faulty.result c.in_ok-text.ensures.kept
+    (rw c.in-None.is at c.in_ok-text.ensures.read) c.faulty.ensures

@@ -1,24 +1,52 @@
-use Rattle.std.proofs.Common.{ℕ, List}
+use Rattle.std.proofs.Common.{◌≡◌, ℕ, List, Ok}
 use Rattle.sfm_due.specs.Due.{IsSolved, Question}
 use Rattle.sfm_due.specs.Meanings.{question_of}
-use Rattle.sfm_run.specs.Task.{Task, reads}
 use Rattle.sfm_run.specs.Files.{edits_file}
-use Rattle.sfm_run.specs.Tasks.{writes, main_file}
-use Rattle.sfm_run.proofs.Joining.{goes_on, misses, refuses}
+use Rattle.sfm_run.specs.Task.{Task, reads}
+use Rattle.sfm_run.specs.Tasks.{main_file, writes}
+use Rattle.sfm_run.proofs.Joining.{goes_on, made, not_made, stops}
 use Rattle.sfm_run.proofs.prepare.prepare_edit.Goals as goal
 
+abbrev solved : Question → Task
+solved edited = writes (IsSolved edited)
+
 abbrev rest : List ℕ → Question → Task
-rest edits asked = reads (edits_file asked edits) (λ edited. writes (IsSolved edited))
+rest edits asked = reads (edits_file asked edits) solved
 
-pub returns-in-Ok-Good : goal.returns-in-Ok-Good
-returns-in-Ok-Good g c = goes_on question_of (main_file c.args.file.now) (rest c.args.edits.now)
-    c.in-Ok-Good.instance _ _ _ c.edit_behind.result
-    (rw c.in-Ok-Good.field-0-is at c.in-Ok-Good.ensures) c.edit_behind.ensures
+pub returns-in_err-instance : goal.returns-in_err-instance
+returns-in_err-instance g c = stops question_of (main_file c.args.file.now) (rest c.args.edits.now)
+    _ _
+    c.from_residual.result c.in_err-instance.field-0.0 c.in_err-instance.ensures
+    c.from_residual.ensures.1
 
-pub returns-in-Ok-Faulty : goal.returns-in-Ok-Faulty
-returns-in-Ok-Faulty g c = refuses question_of (main_file c.args.file.now) (rest c.args.edits.now) _
-    _ c.in-Ok-Faulty.due (rw c.in-Ok-Faulty.field-0-is at c.in-Ok-Faulty.ensures)
+pub returns-in_err-edited : goal.returns-in_err-edited
+returns-in_err-edited g c =
+    goes_on question_of (main_file c.args.file.now) (rest c.args.edits.now)
+    c.in_ok-instance.instance _ _ _ _
+    c.in_ok-instance.ensures
+    (stops question_of (edits_file (question_of c.in_ok-instance.instance) c.args.edits.now)
+    (solved) _ _
+    c.from_residual-in_err-edited.result c.in_err-edited.field-0.0
+    c.in_err-edited.ensures c.from_residual-in_err-edited.ensures.1)
 
-pub returns-in-Err : goal.returns-in-Err
-returns-in-Err g c = misses question_of (main_file c.args.file.now) (rest c.args.edits.now) _ _
-    c.in-Err.status c.in-Err.ensures
+pub returns-in_err-due : goal.returns-in_err-due
+returns-in_err-due g c =
+    goes_on question_of (main_file c.args.file.now) (rest c.args.edits.now)
+    c.in_ok-instance.instance _ _ _ _
+    c.in_ok-instance.ensures
+    (goes_on question_of (edits_file (question_of c.in_ok-instance.instance) c.args.edits.now)
+    (solved) c.in_ok-edited.edited _ _ _ _
+    c.in_ok-edited.ensures
+    (not_made (λ written code. IsSolved (question_of c.in_ok-edited.edited) written × (code ≡ 0)) _
+    c.from_residual-in_err-due.result c.from_residual-in_err-due.ensures.1))
+
+pub returns : goal.returns
+returns g c =
+    goes_on question_of (main_file c.args.file.now) (rest c.args.edits.now)
+    c.in_ok-instance.instance _ _ _
+    (Ok c.in_ok-due.due) c.in_ok-instance.ensures
+    (goes_on question_of (edits_file (question_of c.in_ok-instance.instance) c.args.edits.now)
+    (solved) c.in_ok-edited.edited _ _ _
+    (Ok c.in_ok-due.due) c.in_ok-edited.ensures
+    (made (λ written code. IsSolved (question_of c.in_ok-edited.edited) written × (code ≡ 0))
+    c.in_ok-due.due _ c.in_ok-due.ensures))
